@@ -36,7 +36,14 @@ use Rattle.tx_bridge.proofs.Slotting.{path_is, paths_alike, some_once}
 
 -- the new unit w, where the old one of number i has given what is kept of it
 abbrev pub with_given : ℕ → Bridge → Bridge → Bridge
-with_given i b w = record { unit = w.unit; kept = b.kept; parts = b.parts; renewed = w.renewed; source = Some i }
+with_given i b w = record {
+  unit = w.unit;
+  kept = b.kept;
+  parts = b.parts;
+  shelled = b.shelled;
+  renewed = w.renewed;
+  source = Some i;
+}
 
 -- ---- where old units stand
 
@@ -120,7 +127,8 @@ one_sound true i b w same sound_b sound_w = record {
   once = sound_b.once;
   placed = sound_w.placed;
   parts =
-      parts_same b.unit w.unit (wide_outcome b.kept) b.parts (same refl) sound_b.placed sound_w.placed sound_b.parts;
+      parts_same b.shelled b.unit w.unit (wide_outcome b.kept) b.parts (same refl) sound_b.placed sound_w.placed
+      sound_b.parts;
 }
 one_sound false i b w same sound_b sound_w = sound_w
 
@@ -206,7 +214,7 @@ fresh_units (u ∷ us) = ap (λ vs. u ∷ vs) (fresh_units us)
 
 fresh_sound : (us : List DocUnit) → AllByRecursion IsPlaced us → AllByRecursion IsSound (map fresh_bridge us)
 fresh_sound [] h = tt
-fresh_sound (u ∷ us) h = (record { holds = tt; once = tt; placed = h.0; parts = no_parts u }, fresh_sound us h.1)
+fresh_sound (u ∷ us) h = (record { holds = tt; once = tt; placed = h.0; parts = no_parts false u }, fresh_sound us h.1)
 
 pub all_given_units : (i : ℕ) (places : List (Option (List ℕ))) (bs new : List Bridge)
     → bodies_of (given_all i places bs new) ≡ bodies_of new

@@ -4,7 +4,7 @@ use Rattle.std.proofs.Common.{◌≡◌, ℕ, ◌+◌, ◌≤◌, List, [], ◌�
 use Rattle.std.proofs.lemmas.Slice.Eq.{bytes_eq-Decides}
 use mathlib.Core.Path.{fun_ext}
 use Rattle.std.proofs.lemmas.List.Elements.{All-from_recursion}
-use Rattle.std.specs.Prelude.{Bool, true, false, is_some, if◌then◌else◌, min}
+use Rattle.std.specs.Prelude.{Bool, true, false, ◌&&◌, is_some, if◌then◌else◌, min}
 use Rattle.std.specs.Option.{option_map}
 use Rattle.std.specs.List.{All, AllByRecursion, IsDistinct}
 use Rattle.std.specs.FinMap.{get}
@@ -19,18 +19,23 @@ use Rattle.tx_exec_form.specs.Evaluated.{WideTrace, evaluated_in, paid}
 use Rattle.tx_exec_form.specs.Laws.{Agrees, Supports}
 use Rattle.tx_exec.specs.Outcomes.{wide_trace}
 use Rattle.tx_parts.specs.Composed.{alone, evaluates}
-use Rattle.tx_parts.specs.Parts.{Part, parts, part_trace, Stored, stored}
+use Rattle.tx_parts.specs.Opening.{Sheller, closed}
+use Rattle.tx_parts.specs.Shellers.{IsSheller}
+use Rattle.tx_parts.specs.Parts.{Part, parts, parts_by, part_trace, Stored, stored}
 use Rattle.tx_parts.specs.Standing.{StandsIn}
 use Rattle.tx_walk.specs.declared.part.Part.{Part as DonePart}
-use Rattle.tx_walk.specs.Held.{Store, Stores, IsSound, charges}
+use Rattle.tx_walk.specs.Held.{Store, Stores, IsSound}
+use Rattle.tx_walk.specs.Guides.{charged}
+use Rattle.tx_walk.proofs.Charging.{charged_within}
 use Rattle.tx_walk.specs.Walked.{IsTidy, kept_in, stores_in, paths_of, Seen, seen, seen_in, seen_parts}
 use Rattle.tx_units.specs.declared.kinds.Unit.{Unit as DocUnit}
 use Rattle.tx_view_form.specs.declared.TheConstants.{MOST_UNIT_STEPS}
 use Rattle.tx_view_form.specs.Outcomes.{Moment, allowance, outcome, charge, behind}
 use Rattle.tx_bridge.specs.Entries.{outcome_of}
-use Rattle.tx_bridge.specs.PartsKept.{KeptParts, kept_at, has_parts, unit_parts, parts_if_done, fresh_parts}
+use Rattle.tx_bridge.specs.PartsKept.{KeptParts, kept_at, has_parts, unit_parts_by, parts_if_done, fresh_parts_by}
 use Rattle.tx_bridge.specs.Reached.{fits}
-use Rattle.tx_bridge.specs.Spares.{UnitSpare, stores_with, unit_charge_with}
+use Rattle.tx_bridge.specs.Spares.{UnitSpare, stores_with}
+use Rattle.tx_bridge.specs.Charges.{guide_with, parts_charge_by, whole_charge, unit_charge_by}
 use Rattle.tx_bridge.specs.HeldParts.{HoldsPart, PartsHold, kept_part, kept_parts}
 use Rattle.tx_bridge.specs.UnitLists.{IsPlaced}
 use Rattle.tx_walk.proofs.Kept.{Alike, alike}
@@ -77,11 +82,10 @@ same_store (p ∷ ps) path = ap (λ r. if bytes_eq p.path path then Some (wide_t
 abbrev pub both_stores : Store → Store → Stores
 both_stores own spare = record { own = own; spare = spare }
 
-pub same_charges : (ks qs : List DonePart) (ps : List Part)
-    → charges (stores_in ks qs) ps ≡ charges (stores_with (kept_parts ks) (kept_parts qs)) ps
-same_charges ks qs ps =
-    ap (λ s. charges (both_stores s (kept_in qs)) ps) (fun_ext (same_store ks))
-    ∙ ap (λ s. charges (both_stores (kept_at (kept_parts ks)) s) ps) (fun_ext (same_store qs))
+pub same_stores : (ks qs : List DonePart) → stores_in ks qs ≡ stores_with (kept_parts ks) (kept_parts qs)
+same_stores ks qs =
+    ap (λ s. both_stores s (kept_in qs)) (fun_ext (same_store ks))
+    ∙ ap (λ s. both_stores (kept_at (kept_parts ks)) s) (fun_ext (same_store qs))
 
 -- ---- what it answers
 
@@ -133,35 +137,44 @@ holds_each support kept t (d ∷ ds) (p ∷ ps) h stand tidy =
 
 -- laws of parts, as the calls state them
 abbrev pub AllStandIn : Type 0
-AllStandIn =
-    (k c : ℕ) (path : List ℕ) (t : WideTree) (e : Before) → AllByRecursion (StandsIn path t) (parts k c path t e)
+AllStandIn = (sheller : Sheller) (k c : ℕ) (path : List ℕ) (t : WideTree) (e : Before)
+    → AllByRecursion (StandsIn path t) (parts_by sheller k c path t e)
 
 abbrev AllApart : Type 0
-AllApart = (kept : Stores) (k c : ℕ) (t : WideTree) (e : Before) (done : List DonePart)
-    → map seen done ≡ map (seen_in kept) (parts k c [] t e) → IsDistinct bytes_eq (paths_of done)
+AllApart = (kept : Stores) (sheller : Sheller) (k c : ℕ) (t : WideTree) (e : Before) (done : List DonePart)
+    → map seen done ≡ map (seen_in kept) (parts_by sheller k c [] t e) → IsDistinct bytes_eq (paths_of done)
 
 abbrev pub AllSameStored : Type 0
-AllSameStored = (k c n : ℕ) (path : List ℕ) (t : WideTree) (e d : Before) (trace : WideTrace)
-    → evaluates k c t e ≡ Some trace → Agrees d trace.looks → trace.cost ≤ n
-    → map stored (parts k n path t d) ≡ map stored (parts k c path t e)
+AllSameStored = (sheller : Sheller) → IsSheller sheller → (k c n : ℕ) (path : List ℕ) (t : WideTree) (e d : Before)
+    (trace : WideTrace) → evaluates k c t e ≡ Some trace → Agrees d trace.looks → trace.cost ≤ n
+    → map stored (parts_by sheller k n path t d) ≡ map stored (parts_by sheller k c path t e)
 
-module _ (support : AllSupport) (stand : AllStandIn) (apart : AllApart) (same : AllSameStored) (kept : Stores) (c : ℕ)
+-- where a unit has parts, these are asked for where nothing is shelled
+unshelled : (b shelled : Bool) → b ≡ true → b && shelled ≡ false → shelled ≡ false
+unshelled true shelled nested off = off
+unshelled false shelled nested off = cc
+
+module _ (support : AllSupport) (stand : AllStandIn) (apart : AllApart) (same : AllSameStored) (sheller : Sheller)
+    (sound : IsSheller sheller) (shelled : Bool) (shut : shelled ≡ false → sheller ≡ closed) (kept : Stores) (c : ℕ)
     (e : Before) (u : DocUnit) (nested : has_parts u ≡ true) (ds : List DonePart) (tidy : AllByRecursion IsTidy ds)
   where
     pub walked_hold : (o : Option WideTrace) → o ≡ evaluates MOST_LEVELS c u.tagged.tree e
-        → map seen ds ≡ seen_parts kept (parts MOST_LEVELS c [] u.tagged.tree e) o → PartsHold u o ds
+        → map seen ds ≡ seen_parts kept (parts_by sheller MOST_LEVELS c [] u.tagged.tree e) o
+        → PartsHold shelled u o ds
     unfolding IsDistinct
     walked_hold None is h =
         let none : [] ≡ ds = sym (none_walked ds h) in
-        subst (PartsHold u None) none (record { hold = tt; distinct = tt; all = tt })
+        subst (PartsHold shelled u None) none (record { hold = tt; distinct = tt; all = λ off. tt })
     walked_hold (Some trace) is h = record {
-      hold = holds_each support kept u.tagged.tree ds (parts MOST_LEVELS c [] u.tagged.tree e) h
-          (stand MOST_LEVELS c [] u.tagged.tree e) tidy;
-      distinct = apart kept MOST_LEVELS c u.tagged.tree e ds h;
-      all = λ n d agrees allowed.
+      hold = holds_each support kept u.tagged.tree ds (parts_by sheller MOST_LEVELS c [] u.tagged.tree e) h
+          (stand sheller MOST_LEVELS c [] u.tagged.tree e) tidy;
+      distinct = apart kept sheller MOST_LEVELS c u.tagged.tree e ds h;
+      all = λ off n d agrees allowed.
           ap (λ b. if b then map stored (parts MOST_LEVELS n [] u.tagged.tree d) else []) nested
-          ∙ same MOST_LEVELS c n [] u.tagged.tree e d trace (sym is) agrees allowed
-          ∙ sym (walked_parts kept ds (parts MOST_LEVELS c [] u.tagged.tree e) (Some trace) h);
+          ∙ ap (λ (s : Sheller). map stored (parts_by s MOST_LEVELS n [] u.tagged.tree d))
+          (sym (shut (unshelled (has_parts u) shelled nested off)))
+          ∙ same sheller sound MOST_LEVELS c n [] u.tagged.tree e d trace (sym is) agrees allowed
+          ∙ sym (walked_parts kept ds (parts_by sheller MOST_LEVELS c [] u.tagged.tree e) (Some trace) h);
     }
 
 -- ---- at a moment
@@ -185,11 +198,6 @@ module _ (u : DocUnit) (m : Moment) (env : NameMap) (left a : ℕ)
   names_are : get env ≡ get m.env
   names_are = ap (λ (k : Moment). get k.env) view
 
-  pub parts_there : parts MOST_LEVELS a [] u.tagged.tree (get env) ≡ unit_parts m u
-  parts_there =
-      ap (λ n. parts MOST_LEVELS n [] u.tagged.tree (get env)) allowed_is
-      ∙ ap (parts MOST_LEVELS (allowance m) [] u.tagged.tree) names_are
-
   pub outcome_there : IsPlaced u → has_parts u ≡ true
       → evaluates MOST_LEVELS a u.tagged.tree (get env) ≡ outcome_of m u
   unfolding outcome
@@ -198,62 +206,71 @@ module _ (u : DocUnit) (m : Moment) (env : NameMap) (left a : ℕ)
       ∙ ap (evaluates MOST_LEVELS (allowance m) u.tagged.tree) names_are
       ∙ ap (λ t. evaluated_in MOST_LEVELS (allowance m) t (get m.env)) (sym (is_alone u placed nested))
 
+module _ (sheller : Sheller) (u : DocUnit) (m : Moment) (env : NameMap) (left a : ℕ)
+    (view : record { env = env; left = left } ≡ m) (is_a : a ≡ min MOST_UNIT_STEPS left) where
+  pub parts_there : parts_by sheller MOST_LEVELS a [] u.tagged.tree (get env) ≡ unit_parts_by sheller m u
+  parts_there =
+      ap (λ n. parts_by sheller MOST_LEVELS n [] u.tagged.tree (get env)) (allowed_is u m env left a view is_a)
+      ∙ ap (parts_by sheller MOST_LEVELS (allowance m) [] u.tagged.tree) (names_are u m env left a view is_a)
+
   pub fresh_there : (kept : Stores) (ds : List DonePart) (o : Option WideTrace) → has_parts u ≡ true
       → o ≡ outcome_of m u
-      → map seen ds ≡ seen_parts kept (parts MOST_LEVELS a [] u.tagged.tree (get env)) o
-      → kept_parts ds ≡ fresh_parts m u
+      → map seen ds ≡ seen_parts kept (parts_by sheller MOST_LEVELS a [] u.tagged.tree (get env)) o
+      → kept_parts ds ≡ fresh_parts_by sheller m u
   fresh_there kept ds o nested is h =
-      walked_parts kept ds (parts MOST_LEVELS a [] u.tagged.tree (get env)) o h
+      walked_parts kept ds (parts_by sheller MOST_LEVELS a [] u.tagged.tree (get env)) o h
       ∙ ap (parts_if_done o) parts_there
-      ∙ ap (λ r. parts_if_done r (unit_parts m u)) is
-      ∙ sym (ap (λ b. if b then parts_if_done (outcome_of m u) (unit_parts m u) else []) nested)
+      ∙ ap (λ r. parts_if_done r (unit_parts_by sheller m u)) is
+      ∙ sym (ap (λ b. if b then parts_if_done (outcome_of m u) (unit_parts_by sheller m u) else []) nested)
 
   pub charge_there : (ks qs : List DonePart)
-      → charges (stores_in ks qs) (parts MOST_LEVELS a [] u.tagged.tree (get env))
-      ≡ charges (stores_with (kept_parts ks) (kept_parts qs)) (unit_parts m u)
-  charge_there ks qs = ap (charges (stores_in ks qs)) parts_there ∙ same_charges ks qs (unit_parts m u)
+      → charged (guide_with sheller (stores_in ks qs)) MOST_LEVELS a [] u.tagged.tree (get env)
+      ≡ parts_charge_by sheller m u (kept_parts ks) (kept_parts qs)
+  charge_there ks qs =
+      ap (λ n. charged (guide_with sheller (stores_in ks qs)) MOST_LEVELS n [] u.tagged.tree (get env))
+      (allowed_is u m env left a view is_a)
+      ∙ ap (charged (guide_with sheller (stores_in ks qs)) MOST_LEVELS (allowance m) [] u.tagged.tree)
+      (names_are u m env left a view is_a)
+      ∙ ap (λ s. charged (guide_with sheller s) MOST_LEVELS (allowance m) [] u.tagged.tree (get m.env))
+      (same_stores ks qs)
 
 -- ---- no more than the unit costs
 
--- the law, as the call states it
-abbrev pub AllCharged : Type 0
-AllCharged = (kept : Stores) (k c : ℕ) (path : List ℕ) (t : WideTree) (e : Before)
-    → charges kept (parts k c path t e) ≤ paid c (evaluates k c t e)
-
-charge_most : AllCharged → (m : Moment) (u : DocUnit) (ks : KeptParts) (s : UnitSpare) → IsPlaced u
-    → unit_charge_with m u ks s ≤ charge m (outcome_of m u)
+charge_most : (sheller : Sheller) → IsSheller sheller → (m : Moment) (u : DocUnit) (ks : KeptParts) (s : UnitSpare)
+    → IsPlaced u → unit_charge_by sheller m u ks s ≤ charge m (outcome_of m u)
 unfolding outcome
-charge_most law m u ks s placed = by (has_parts u) refl
+charge_most sheller sound m u ks s placed = by (has_parts u) refl
   where
     unused : (b : Bool) (n : ℕ) → (if b then 0 else n) ≤ n
     unused true n = omega arith
     unused false n = omega arith
 
-    by : (b : Bool) → has_parts u ≡ b → unit_charge_with m u ks s ≤ charge m (outcome_of m u)
+    by : (b : Bool) → has_parts u ≡ b → unit_charge_by sheller m u ks s ≤ charge m (outcome_of m u)
     by true nested =
-        let is : unit_charge_with m u ks s ≡ charges (stores_with ks s.parts) (unit_parts m u) =
-        ap (λ b. if b then charges (stores_with ks s.parts) (unit_parts m u)
-        else if fits m s.trace then 0 else charge m (outcome_of m u)) nested in
-        let most : charges (stores_with ks s.parts) (unit_parts m u)
+        let is : unit_charge_by sheller m u ks s ≡ parts_charge_by sheller m u ks s.parts =
+        ap (λ b. if b then parts_charge_by sheller m u ks s.parts else whole_charge m u s) nested in
+        let most : parts_charge_by sheller m u ks s.parts
         ≤ paid (allowance m) (evaluates MOST_LEVELS (allowance m) u.tagged.tree (get m.env)) =
-        law (stores_with ks s.parts) MOST_LEVELS (allowance m) [] u.tagged.tree (get m.env) in
+        charged_within (guide_with sheller (stores_with ks s.parts)) sound MOST_LEVELS (allowance m) [] u.tagged.tree
+        (get m.env) in
         let same : paid (allowance m) (evaluates MOST_LEVELS (allowance m) u.tagged.tree (get m.env))
         ≡ charge m (outcome_of m u) =
         ap (λ t. paid (allowance m) (evaluated_in MOST_LEVELS (allowance m) t (get m.env)))
         (sym (is_alone u placed nested)) in
         omega (arith, is, most, same)
     by false other =
-        let is : unit_charge_with m u ks s ≡ (if fits m s.trace then 0 else charge m (outcome_of m u)) =
-        ap (λ b. if b then charges (stores_with ks s.parts) (unit_parts m u)
-        else if fits m s.trace then 0 else charge m (outcome_of m u)) other in
-        let most : (if fits m s.trace then 0 else charge m (outcome_of m u)) ≤ charge m (outcome_of m u) =
+        let is : unit_charge_by sheller m u ks s ≡ whole_charge m u s =
+        ap (λ b. if b then parts_charge_by sheller m u ks s.parts else whole_charge m u s) other in
+        let most : whole_charge m u s ≤ charge m (outcome_of m u) =
         unused (fits m s.trace) (charge m (outcome_of m u)) in
         omega (arith, is, most)
 
-pub spent_most : AllCharged → AllAllowed → (m after : Moment) (u : DocUnit) (ks : KeptParts) (s : UnitSpare) (n : ℕ)
-    → IsPlaced u → n ≡ unit_charge_with m u ks s → after ≡ behind m (outcome_of m u) → n + after.left ≤ m.left
-spent_most law allowed m after u ks s n placed is at =
-    let most : unit_charge_with m u ks s ≤ charge m (outcome_of m u) = charge_most law m u ks s placed in
+pub spent_most : (sheller : Sheller) → IsSheller sheller → AllAllowed → (m after : Moment) (u : DocUnit)
+    (ks : KeptParts) (s : UnitSpare) (n : ℕ) → IsPlaced u → n ≡ unit_charge_by sheller m u ks s
+    → after ≡ behind m (outcome_of m u) → n + after.left ≤ m.left
+spent_most sheller sound allowed m after u ks s n placed is at =
+    let most : unit_charge_by sheller m u ks s ≤ charge m (outcome_of m u) =
+    charge_most sheller sound m u ks s placed in
     let enough : charge m (outcome_of m u) ≤ m.left =
     charge_fits allowed m (outcome_of m u) (tagged_of u.tagged) refl in
     let left : after.left ≡ m.left - charge m (outcome_of m u) = ap (λ (k : Moment). k.left) at in

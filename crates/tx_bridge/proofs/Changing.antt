@@ -105,7 +105,7 @@ changed_sound zero t ps (b ∷ bs) hold h = (
     holds = tt;
     once = tt;
     placed = record { path = h.0.placed.path; origin = h.0.placed.origin };
-    parts = record { hold = hold.0; distinct = hold.1; all = tt };
+    parts = record { hold = hold.0; distinct = hold.1; all = λ off. tt };
   },
   h.1,
 )

@@ -15,7 +15,14 @@ use Rattle.tx_bridge.specs.Courses.{part_in_unit, arrived_parts, joined_by, with
 
 -- the entry with these parts
 abbrev pub with_parts : Bridge → List DonePart → Bridge
-with_parts b ps = record { unit = b.unit; kept = b.kept; parts = ps; renewed = b.renewed; source = b.source }
+with_parts b ps = record {
+  unit = b.unit;
+  kept = b.kept;
+  parts = ps;
+  shelled = b.shelled;
+  renewed = b.renewed;
+  source = b.source;
+}
 
 joined_twice : (xs ys : List DonePart) (b : Bridge) → joined_by ys (joined_by xs b) ≡ joined_by (xs ++ ys) b
 joined_twice xs ys b = ap (with_parts b) (append_assoc b.parts xs ys)

@@ -26,7 +26,14 @@ none_more k = false_from_ne_true (0 == suc k) (λ h. absurd (omega (arith, (Deci
 
 module _ (place : Option (List ℕ)) (i : ℕ) (b : Bridge) where
   abbrev with_kept : Bridge → Bridge
-  with_kept w = record { unit = w.unit; kept = b.kept; parts = b.parts; renewed = w.renewed; source = Some i }
+  with_kept w = record {
+    unit = w.unit;
+    kept = b.kept;
+    parts = b.parts;
+    shelled = b.shelled;
+    renewed = w.renewed;
+    source = Some i;
+  }
 
   given_none : (o : ℕ) (ws : List Bridge)
       → ((k n : ℕ) (w : Bridge) → slice_get ws k ≡ Some w → n ≡ o + k → stays place i b.unit n w.unit ≡ false)
@@ -59,9 +66,7 @@ module _ (place : Option (List ℕ)) (i : ℕ) (b : Bridge) where
 
   pub gives_some : (new : List Bridge) (j : ℕ) (v : Bridge) → slice_get new j ≡ Some v
       → IsSlot place i b.unit new (Some j)
-      → slice_set new j
-      (record { unit = v.unit; kept = b.kept; parts = b.parts; renewed = v.renewed; source = Some i })
-      ≡ given_from place i b 0 new
+      → slice_set new j (with_kept v) ≡ given_from place i b 0 new
   gives_some new j v at h =
       sym (given_some 0 new j v at
       (λ k n w e f. let q : n ≡ k = omega (arith, f) in ap (λ m. stays place i b.unit m w.unit) q ∙ h k w e))

@@ -2,24 +2,24 @@
 use Rattle.std.proofs.Common.{◌≡◌, ℕ, zero, suc, ◌<◌, List, [], ◌∷◌, length, drop, slice_index_or}
 use Rattle.std.proofs.Common.{Option, Some, None, refl, ap, sym, subst, ◌∙◌}
 use Rattle.std.proofs.lemmas.Option.{same_Some, slice_get-get_or, slice_get_within}
-use Rattle.std.specs.Prelude.{true, if◌then◌else◌, IfSome, MatchOption, slice_get, map, zip}
+use Rattle.std.specs.Prelude.{true, false, if◌then◌else◌, IfSome, MatchOption, slice_get, map, zip}
 use Rattle.std.specs.List.{All, AllByRecursion, IsDistinct}
 use Rattle.std.specs.Str.{bytes_eq}
 use Rattle.tx_origin.specs.TaggedTrees.{tagged_of}
 use Rattle.tx_exec.specs.Outcomes.{wide_outcome}
-use Rattle.tx_walk.specs.Held.{charges}
+use Rattle.tx_parts.specs.Opening.{Sheller}
 use Rattle.tx_walk.specs.Walked.{paths_of}
 use Rattle.tx_units.specs.declared.kinds.Unit.{Unit as DocUnit}
-use Rattle.tx_view_form.specs.Outcomes.{Moment, charge}
+use Rattle.tx_view_form.specs.Outcomes.{Moment}
 use Rattle.tx_bridge.specs.declared.bridge.Bridge.{Bridge}
 use Rattle.tx_bridge.specs.Bridged.{Bridged}
 use Rattle.tx_bridge.specs.Entries.{Entry, units_of, outcome_of}
 use Rattle.tx_bridge.specs.Reached.{fits}
 use Rattle.tx_bridge.specs.HeldParts.{HoldsPart, kept_parts}
 use Rattle.tx_bridge.specs.Sound.{Holds, IsSound, entries_of, parts_in}
-use Rattle.tx_bridge.specs.PartsKept.{KeptParts, has_parts, unit_parts}
-use Rattle.tx_bridge.specs.Spares.{UnitSpare, first_spare, kept_spare, spares_of, stores_with, unit_charge_with}
-use Rattle.tx_bridge.specs.Spares.{charge_with}
+use Rattle.tx_bridge.specs.PartsKept.{KeptParts, has_parts}
+use Rattle.tx_bridge.specs.Spares.{UnitSpare, first_spare, kept_spare, spares_of}
+use Rattle.tx_bridge.specs.Charges.{parts_charge_by, whole_charge, unit_charge_by, charge_by}
 use Rattle.tx_bridge.specs.Lent.{lent_spare, spare_of, spare_parts, spares_in, IsSpareOf, IsUsable, HaveUnitsOf}
 use Rattle.tx_bridge.proofs.Partway.{units_in}
 use Rattle.tx_bridge.proofs.Handed.{item_dropped}
@@ -45,12 +45,17 @@ spare_parts_are None = refl
 spare_parts_are (Some b) = refl
 
 -- what a paragraph of the body is charged
-pub parts_charge : (m : Moment) (u : DocUnit) (ks qs : KeptParts) (s : UnitSpare) → has_parts u ≡ true → qs ≡ s.parts
-    → charges (stores_with ks qs) (unit_parts m u) ≡ unit_charge_with m u ks s
-parts_charge m u ks qs s nested same =
-    ap (λ rs. charges (stores_with ks rs) (unit_parts m u)) same
-    ∙ sym (ap (λ b. if b then charges (stores_with ks s.parts) (unit_parts m u)
-    else if fits m s.trace then 0 else charge m (outcome_of m u)) nested)
+pub parts_charge : (sheller : Sheller) (m : Moment) (u : DocUnit) (ks qs : KeptParts) (s : UnitSpare)
+    → has_parts u ≡ true → qs ≡ s.parts → parts_charge_by sheller m u ks qs ≡ unit_charge_by sheller m u ks s
+parts_charge sheller m u ks qs s nested same =
+    ap (parts_charge_by sheller m u ks) same
+    ∙ sym (ap (λ b. if b then parts_charge_by sheller m u ks s.parts else whole_charge m u s) nested)
+
+-- what another unit is
+pub bare_charge : (sheller : Sheller) (m : Moment) (u : DocUnit) (ks : KeptParts) (s : UnitSpare)
+    → has_parts u ≡ false → whole_charge m u s ≡ unit_charge_by sheller m u ks s
+bare_charge sheller m u ks s nested =
+    sym (ap (λ b. if b then parts_charge_by sheller m u ks s.parts else whole_charge m u s) nested)
 
 -- where it can be used, the unit comes to it
 pub is_usable : (m : Moment) (u : DocUnit) (o : Option Bridge) (b : Bridge) → o ≡ Some b → IfSome o (IsSpareOf u)
@@ -74,10 +79,10 @@ first_lent [] (suc i) = refl
 first_lent (s ∷ ss) zero = refl
 first_lent (s ∷ ss) (suc i) = first_lent ss i
 
-pub charged : (m : Moment) (e : Entry) (ps : KeptParts) (o r : Option Bridge) (s : UnitSpare) (n : ℕ)
-    → n ≡ charge_with m e ps (spare_of o) → o ≡ r → s ≡ spare_of r → n ≡ charge_with m e ps s
-charged m e ps o r s n is same first =
-    is ∙ ap (λ p. charge_with m e ps (spare_of p)) same ∙ ap (charge_with m e ps) (sym first)
+pub charged : (sheller : Sheller) (m : Moment) (e : Entry) (ps : KeptParts) (o r : Option Bridge) (s : UnitSpare)
+    (n : ℕ) → n ≡ charge_by sheller m e ps (spare_of o) → o ≡ r → s ≡ spare_of r → n ≡ charge_by sheller m e ps s
+charged sheller m e ps o r s n is same first =
+    is ∙ ap (λ p. charge_by sheller m e ps (spare_of p)) same ∙ ap (charge_by sheller m e ps) (sym first)
 
 sound_at : (ss : List Bridge) (i : ℕ) (s : Bridge) → All IsSound ss → slice_get ss i ≡ Some s → IsSound s
 sound_at ss i s h is =

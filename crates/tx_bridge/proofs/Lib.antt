@@ -37,7 +37,9 @@ pub mod Aside
 pub mod Outside
 pub mod Aligned
 pub mod Lending
+pub mod Staying
 pub mod Spared
+pub mod Left
 pub mod Refreshed
 pub mod CarriedInPlace
 pub mod CarriedAlong

@@ -22,7 +22,8 @@ use Rattle.tx_bridge.specs.declared.bridge.Bridge.{Bridge}
 use Rattle.tx_bridge.specs.Entries.{outcome_of}
 use Rattle.tx_bridge.specs.Reached.{fits}
 use Rattle.tx_bridge.specs.PartsKept.{KeptParts, kept_at, has_parts, unit_parts, parts_if_done, flags_if_done}
-use Rattle.tx_bridge.specs.PartsKept.{part_flags}
+use Rattle.tx_bridge.specs.PartsKept.{unit_parts_by, part_flags, part_flags_by}
+use Rattle.tx_parts.specs.Opening.{Sheller}
 use Rattle.tx_bridge.specs.HeldParts.{HoldsPart, PartsHold, AreItsParts, kept_part, kept_parts, flags_of_parts}
 use Rattle.tx_bridge.specs.HeldParts.{unmarked_part, unmarked}
 use Rattle.tx_bridge.specs.Sound.{IsSound}
@@ -97,17 +98,24 @@ unmarked_hold t (p ∷ ps) h = (
   unmarked_hold t ps h.1,
 )
 
-unmarked_sound : (u : DocUnit) (o : Option WideTrace) (ps : List DonePart) → PartsHold u o ps
-    → PartsHold u o (unmarked ps)
-unmarked_sound u o ps h = record {
+unmarked_sound : (shelled : Bool) (u : DocUnit) (o : Option WideTrace) (ps : List DonePart) → PartsHold shelled u o ps
+    → PartsHold shelled u o (unmarked ps)
+unmarked_sound shelled u o ps h = record {
   hold = unmarked_hold u.tagged.tree ps h.hold;
   distinct = subst (IsDistinct bytes_eq) (sym (unmarked_paths ps)) h.distinct;
-  all = subst (λ ks. AreItsParts u ks o) (sym (unmarked_kept ps)) h.all;
+  all = λ off. subst (λ ks. AreItsParts u ks o) (sym (unmarked_kept ps)) (h.all off);
 }
 
 -- what stays of a unit that isn't reached is sound
 pub left_sound : (b c : Bridge) → IsSound b
-    → c ≡ record { unit = b.unit; kept = b.kept; parts = unmarked b.parts; renewed = false; source = b.source }
+    → c ≡ record {
+      unit = b.unit;
+      kept = b.kept;
+      parts = unmarked b.parts;
+      shelled = b.shelled;
+      renewed = false;
+      source = b.source;
+    }
     → IsSound c
 left_sound b c h is =
     subst IsSound (sym is)
@@ -115,7 +123,7 @@ left_sound b c h is =
       holds = h.holds;
       once = h.once;
       placed = h.placed;
-      parts = unmarked_sound b.unit (wide_outcome b.kept) b.parts h.parts;
+      parts = unmarked_sound b.shelled b.unit (wide_outcome b.kept) b.parts h.parts;
     })
 
 -- ---- the flags that a walk leaves
@@ -135,26 +143,28 @@ done_flags kept ps None = refl
 done_flags kept ps (Some trace) = flags_seen_in kept ps
 
 -- those of the unit's parts, of which these were kept
-pub walked_flags : (m : Moment) (u : DocUnit) (ks qs ds : List DonePart) (ps : List Part) (o : Option WideTrace)
-    → has_parts u ≡ true → ps ≡ unit_parts m u → o ≡ outcome_of m u → map seen ds ≡ seen_parts (stores_in ks qs) ps o
-    → flags_of_parts ds ≡ part_flags m u (kept_parts ks)
-walked_flags m u ks qs ds ps o nested are is h =
+pub walked_flags : (sheller : Sheller) (m : Moment) (u : DocUnit) (ks qs ds : List DonePart) (ps : List Part)
+    (o : Option WideTrace) → has_parts u ≡ true → ps ≡ unit_parts_by sheller m u → o ≡ outcome_of m u
+    → map seen ds ≡ seen_parts (stores_in ks qs) ps o
+    → flags_of_parts ds ≡ part_flags_by sheller m u (kept_parts ks)
+walked_flags sheller m u ks qs ds ps o nested are is h =
     sym (flags_of_seen ds) ∙ ap (map (λ (s : Seen). s.renewed)) h ∙ done_flags (stores_in ks qs) ps o
     ∙ ap (λ (store : Store). flags_if_done o store ps) (fun_ext (same_store ks))
     ∙ ap (flags_if_done o (kept_at (kept_parts ks))) are
-    ∙ ap (λ r. flags_if_done r (kept_at (kept_parts ks)) (unit_parts m u)) is
-    ∙ sym (ap (λ b. if b then flags_if_done (outcome_of m u) (kept_at (kept_parts ks)) (unit_parts m u) else []) nested)
+    ∙ ap (λ r. flags_if_done r (kept_at (kept_parts ks)) (unit_parts_by sheller m u)) is
+    ∙ sym (ap (λ b. if b then flags_if_done (outcome_of m u) (kept_at (kept_parts ks)) (unit_parts_by sheller m u)
+    else []) nested)
 
-pub bare_flags : (m : Moment) (u : DocUnit) (ks : KeptParts) (ds : List DonePart) → has_parts u ≡ false → ds ≡ []
-    → flags_of_parts ds ≡ part_flags m u ks
-bare_flags m u ks ds nested none =
+pub bare_flags : (sheller : Sheller) (m : Moment) (u : DocUnit) (ks : KeptParts) (ds : List DonePart)
+    → has_parts u ≡ false → ds ≡ [] → flags_of_parts ds ≡ part_flags_by sheller m u ks
+bare_flags sheller m u ks ds nested none =
     ap flags_of_parts none
-    ∙ sym (ap (λ b. if b then flags_if_done (outcome_of m u) (kept_at ks) (unit_parts m u) else []) nested)
+    ∙ sym (ap (λ b. if b then flags_if_done (outcome_of m u) (kept_at ks) (unit_parts_by sheller m u) else []) nested)
 
 -- ---- of a unit that isn't reached each part is held
 
 -- at the path of each part stands its trace
-abbrev AreKept : Store → List DonePart → Type 0
+abbrev pub AreKept : Store → List DonePart → Type 0
 AreKept kept ds = AllByRecursion (λ d. kept d.path ≡ Some (wide_trace d.trace)) ds
 
 kept_behind : (p : DonePart) (kept : Store) (ds : List DonePart)
@@ -166,7 +176,7 @@ kept_behind p kept (d ∷ ds) other h = (
   kept_behind p kept ds other.1 h.1,
 )
 
-each_kept : (ds : List DonePart) → IsDistinct bytes_eq (paths_of ds) → AreKept (kept_at (kept_parts ds)) ds
+pub each_kept : (ds : List DonePart) → IsDistinct bytes_eq (paths_of ds) → AreKept (kept_at (kept_parts ds)) ds
 unfolding IsDistinct
 each_kept [] distinct = tt
 each_kept (d ∷ ds) distinct = (
@@ -212,9 +222,8 @@ flags_of_done agree m u ds true (Some trace) distinct h =
 
 -- so none of them is evaluated
 pub left_flags : AllAgree → (m : Moment) (u : DocUnit) (o : Option WideTrace) (ds qs : List DonePart)
-    → fits m o ≡ true → o ≡ outcome_of m u → PartsHold u o ds → qs ≡ unmarked ds
-    → flags_of_parts qs ≡ part_flags m u (kept_parts ds)
-left_flags agree m u o ds qs fit is h are =
+    → fits m o ≡ true → o ≡ outcome_of m u → IsDistinct bytes_eq (paths_of ds) → AreItsParts u (kept_parts ds) o
+    → qs ≡ unmarked ds → flags_of_parts qs ≡ part_flags m u (kept_parts ds)
+left_flags agree m u o ds qs fit is distinct its are =
     ap flags_of_parts are
-    ∙ flags_of_done agree m u ds (has_parts u) (outcome_of m u) h.distinct
-    (parts_fit m o u (kept_parts ds) fit is h.all)
+    ∙ flags_of_done agree m u ds (has_parts u) (outcome_of m u) distinct (parts_fit m o u (kept_parts ds) fit is its)

@@ -1,6 +1,6 @@
 -- What is kept of parts goes with a unit.
 use Rattle.std.proofs.Common.{◌≡◌, ℕ, List, [], map, Option, Some, None, refl, ap, sym, ◌∙◌, subst}
-use Rattle.std.specs.Prelude.{Bool, false, is_some, if◌then◌else◌}
+use Rattle.std.specs.Prelude.{Bool, false, ◌&&◌, is_some, if◌then◌else◌}
 use Rattle.std.specs.Option.{option_map}
 use Rattle.std.specs.List.{AllByRecursion, IsDistinct}
 use Rattle.tx_tree.specs.WideTree.{WideTree}
@@ -11,25 +11,34 @@ use Rattle.tx_exec_form.specs.Evaluated.{WideTrace}
 use Rattle.tx_parts.specs.Parts.{parts, stored}
 use Rattle.tx_walk.specs.declared.part.Part.{Part as DonePart}
 use Rattle.tx_units.specs.declared.kinds.Unit.{Unit as DocUnit}
-use Rattle.tx_bridge.specs.PartsKept.{KeptParts, has_parts}
+use Rattle.tx_parts.specs.Opening.{Sheller}
+use Rattle.tx_view_form.specs.Outcomes.{Moment}
+use Rattle.tx_bridge.specs.Entries.{outcome_of}
+use Rattle.tx_bridge.specs.PartsKept.{KeptParts, has_parts, unit_parts_by, parts_if_done, fresh_parts_by}
 use Rattle.tx_bridge.specs.HeldParts.{HoldsPart, PartsHold, AreItsParts, kept_parts}
 use Rattle.tx_bridge.specs.UnitLists.{IsPlaced}
 
 -- nothing is kept
-pub no_parts : (u : DocUnit) → PartsHold u None []
+pub no_parts : (shelled : Bool) (u : DocUnit) → PartsHold shelled u None []
 unfolding IsDistinct
-no_parts u = record { hold = tt; distinct = tt; all = tt }
+no_parts shelled u = record { hold = tt; distinct = tt; all = λ off. tt }
 
 -- so it is where the unit isn't nested
-pub bare_parts : (u : DocUnit) (o : Option WideTrace) → has_parts u ≡ false → PartsHold u o []
+pub bare_parts : (shelled : Bool) (u : DocUnit) (o : Option WideTrace) → has_parts u ≡ false
+    → PartsHold shelled u o []
 unfolding IsDistinct
-bare_parts u None nested = record { hold = tt; distinct = tt; all = tt }
-bare_parts u (Some trace) nested = record {
+bare_parts shelled u None nested = record { hold = tt; distinct = tt; all = λ off. tt }
+bare_parts shelled u (Some trace) nested = record {
   hold = tt;
   distinct = tt;
-  all = λ n e agrees allowed.
+  all = λ off n e agrees allowed.
       ap (λ b. if b then map stored (parts MOST_LEVELS n [] u.tagged.tree e) else []) nested;
 }
+
+pub bare_fresh : (sheller : Sheller) (m : Moment) (u : DocUnit) → has_parts u ≡ false
+    → [] ≡ fresh_parts_by sheller m u
+bare_fresh sheller m u nested =
+    sym (ap (λ b. if b then parts_if_done (outcome_of m u) (unit_parts_by sheller m u) else []) nested)
 
 -- ---- two units with one tree
 
@@ -56,10 +65,13 @@ same_parts u v ks (Some trace) same nested h = λ n e agrees allowed.
     ∙ ap (λ (t : TaggedTree). asked (has_parts u) t.tree n e) (sym same)
     ∙ h n e agrees allowed
 
-pub parts_same : (u v : DocUnit) (o : Option WideTrace) (ps : List DonePart) → tagged_of u.tagged ≡ tagged_of v.tagged
-    → IsPlaced u → IsPlaced v → PartsHold u o ps → PartsHold v o ps
-parts_same u v o ps same placed there h = record {
+pub parts_same : (shelled : Bool) (u v : DocUnit) (o : Option WideTrace) (ps : List DonePart)
+    → tagged_of u.tagged ≡ tagged_of v.tagged → IsPlaced u → IsPlaced v → PartsHold shelled u o ps
+    → PartsHold shelled v o ps
+parts_same shelled u v o ps same placed there h = record {
   hold = subst (λ (t : TaggedTree). AllByRecursion (HoldsPart t.tree) ps) same h.hold;
   distinct = h.distinct;
-  all = same_parts u v (kept_parts ps) o same (same_nested u v same placed there) h.all;
+  all = λ off.
+      same_parts u v (kept_parts ps) o same (same_nested u v same placed there)
+      (h.all (ap (λ b. b && shelled) (same_nested u v same placed there) ∙ off));
 }

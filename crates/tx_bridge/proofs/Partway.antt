@@ -16,9 +16,12 @@ use Rattle.tx_view_form.specs.Outcomes.{Moment, behind, env_behind}
 use Rattle.tx_units.specs.declared.kinds.Unit.{Unit as DocUnit}
 use Rattle.tx_bridge.specs.declared.bridge.Bridge.{Bridge}
 use Rattle.tx_bridge.specs.Entries.{Entry, units_of, fresh_from, outcome_of}
-use Rattle.tx_bridge.specs.Reached.{fits, reached_from}
-use Rattle.tx_bridge.specs.PartsKept.{KeptParts, fresh_parts, fresh_parts_from, part_flags, part_flags_from}
-use Rattle.tx_bridge.specs.Spares.{Spares, first_spare, charge_with, charges_with}
+use Rattle.tx_parts.specs.Opening.{Sheller}
+use Rattle.tx_bridge.specs.Reached.{unit_stays_by, reached_by_from}
+use Rattle.tx_bridge.specs.PartsKept.{KeptParts, fresh_parts_by, fresh_parts_by_from, part_flags_by}
+use Rattle.tx_bridge.specs.PartsKept.{part_flags_by_from}
+use Rattle.tx_bridge.specs.Spares.{Spares, first_spare}
+use Rattle.tx_bridge.specs.Charges.{charge_by, charges_by}
 use Rattle.tx_bridge.specs.HeldParts.{kept_parts, flags_of_parts}
 use Rattle.tx_bridge.specs.Settled.{AgreesWith, AreSettled}
 use Rattle.tx_bridge.specs.Sound.{IsSound, entry_of, entries_of, parts_in, part_flags_in, flags_of, sources_in}
@@ -38,30 +41,32 @@ SameParts old now = (k : ℕ) → slice_get (flags_of now) k ≡ Some false
 
 -- Behind i units, at the moment m, with these charges, of a refresh from the moment `start` with these spares. What is
 -- done, and what is left from here, are all. Where the flag is set, what is left settles from what names have.
-pub record Partway (old now : List Bridge) (spares : Spares) (start : Moment) (i : ℕ) (m : Moment) (flag : Bool)
-    (before after spent : ℕ) : Type 0 where
+pub record Partway (sheller : Sheller) (old now : List Bridge) (spares : Spares) (start : Moment) (i : ℕ) (m : Moment)
+    (flag : Bool) (before after spent : ℕ) : Type 0 where
   pub paid : after ≡ before + spent
   pub room : spent + m.left ≤ MOST_VIEW_STEPS
   pub settled : flag ≡ true → AreSettled m.env (entries_of (drop i old))
   pub fresh : entries_of (take i now) ++ fresh_from m (units_in (drop i old)) ≡ fresh_from start (units_in old)
-  pub parts : parts_in (take i now) ++ fresh_parts_from m (units_in (drop i old))
-      ≡ fresh_parts_from start (units_in old)
-  pub marks : part_flags_in (take i now) ++ part_flags_from m (entries_of (drop i old)) (parts_in (drop i old))
-      ≡ part_flags_from start (entries_of old) (parts_in old)
+  pub parts : parts_in (take i now) ++ fresh_parts_by_from sheller m (units_in (drop i old))
+      ≡ fresh_parts_by_from sheller start (units_in old)
+  pub marks : part_flags_in (take i now)
+      ++ part_flags_by_from sheller m (entries_of (drop i old)) (parts_in (drop i old))
+      ≡ part_flags_by_from sheller start (entries_of old) (parts_in old)
   pub rest : drop i now ≡ drop i old
-  pub flags : flags_of (take i now) ++ reached_from m (entries_of (drop i old)) ≡ reached_from start (entries_of old)
-  pub steps : after + charges_with m (entries_of (drop i old)) (parts_in (drop i old)) (drop i spares)
-      ≡ before + charges_with start (entries_of old) (parts_in old) spares
+  pub flags : flags_of (take i now) ++ reached_by_from sheller m (entries_of (drop i old)) (parts_in (drop i old))
+      ≡ reached_by_from sheller start (entries_of old) (parts_in old)
+  pub steps : after + charges_by sheller m (entries_of (drop i old)) (parts_in (drop i old)) (drop i spares)
+      ≡ before + charges_by sheller start (entries_of old) (parts_in old) spares
   pub sound : All IsSound now
   pub units : units_in now ≡ units_in old
   pub sources : sources_in now ≡ sources_in old
   pub stays : Stays old now
   pub same : SameParts old now
 
-pub begun : (old : List Bridge) (spares : Spares) (start : Moment) (flag : Bool) (before : ℕ) → All IsSound old
-    → (flag ≡ true → AreSettled start.env (entries_of old)) → start.left ≤ MOST_VIEW_STEPS
-    → Partway old old spares start 0 start flag before before 0
-begun old spares start flag before sound settled left = record {
+pub begun : (sheller : Sheller) (old : List Bridge) (spares : Spares) (start : Moment) (flag : Bool) (before : ℕ)
+    → All IsSound old → (flag ≡ true → AreSettled start.env (entries_of old)) → start.left ≤ MOST_VIEW_STEPS
+    → Partway sheller old old spares start 0 start flag before before 0
+begun sheller old spares start flag before sound settled left = record {
   paid = omega arith;
   room = omega (arith, left);
   settled = settled;
@@ -111,10 +116,10 @@ get_dropped f (x ∷ xs) zero b rest e = let same : x ≡ b = cc in ap (λ y. So
 get_dropped f (x ∷ xs) (suc i) b rest e = get_dropped f xs i b rest e
 
 -- the unit is brought to what it comes to at the moment
-pub record IsBrought (b y : Bridge) (m : Moment) : Type 0 where
+pub record IsBrought (sheller : Sheller) (b y : Bridge) (m : Moment) : Type 0 where
   pub unit : y.unit ≡ b.unit
   pub fresh : wide_outcome y.kept ≡ outcome_of m b.unit
-  pub parts : kept_parts y.parts ≡ fresh_parts m b.unit
+  pub parts : kept_parts y.parts ≡ fresh_parts_by sheller m b.unit
 
 abbrev entry_with : DocUnit → Option WideTrace → Entry
 entry_with u o = record { unit = u; trace = o }
@@ -125,11 +130,12 @@ entry_is u v o r e f = ap (λ x. entry_with x o) e ∙ ap (entry_with v) f
 abbrev parts_of : Bridge → KeptParts
 parts_of b = kept_parts b.parts
 
-brought_entry : (b y : Bridge) (m : Moment) → IsBrought b y m → entry_of y ≡ entry_with b.unit (outcome_of m b.unit)
-brought_entry b y m h = entry_is y.unit b.unit (wide_outcome y.kept) (outcome_of m b.unit) h.unit h.fresh
+brought_entry : (sheller : Sheller) (b y : Bridge) (m : Moment) → IsBrought sheller b y m
+    → entry_of y ≡ entry_with b.unit (outcome_of m b.unit)
+brought_entry sheller b y m h = entry_is y.unit b.unit (wide_outcome y.kept) (outcome_of m b.unit) h.unit h.fresh
 
-module _ (old now : List Bridge) (spares : Spares) (start : Moment) (i : ℕ) (m : Moment) (flag : Bool)
-    (before after spent : ℕ) (p : Partway old now spares start i m flag before after spent)
+module _ (sheller : Sheller) (old now : List Bridge) (spares : Spares) (start : Moment) (i : ℕ) (m : Moment)
+    (flag : Bool) (before after spent : ℕ) (p : Partway sheller old now spares start i m flag before after spent)
     (inside : i < length now) (d : Bridge) where
   b : Bridge
   b = slice_index_or now i d
@@ -185,7 +191,7 @@ module _ (old now : List Bridge) (spares : Spares) (start : Moment) (i : ℕ) (m
   sources_next y source = set_sources now i d y inside source ∙ p.sources
 
   -- what is done and what is left
-  pub front_next : (y : Bridge) → IsBrought (slice_index_or now i d) y m
+  pub front_next : (y : Bridge) → IsBrought sheller (slice_index_or now i d) y m
       → entries_of (take (i + 1) (slice_set now i y))
       ++ fresh_from (behind m (outcome_of m (slice_index_or now i d).unit)) (units_in (drop (i + 1) old))
       ≡ fresh_from start (units_in old)
@@ -199,54 +205,60 @@ module _ (old now : List Bridge) (spares : Spares) (start : Moment) (i : ℕ) (m
       (fresh_from (behind m (outcome_of m b.unit)) (units_in (drop (i + 1) old)))
       ∙ ap (λ e. entries_of (take i now)
       ++ e ∷ fresh_from (behind m (outcome_of m b.unit)) (units_in (drop (i + 1) old)))
-      (brought_entry b y m brought)
+      (brought_entry sheller b y m brought)
       ∙ ap (λ bs. entries_of (take i now) ++ fresh_from m (units_in bs)) (sym ahead)
       ∙ p.fresh
 
-  pub parts_next : (y : Bridge) → IsBrought (slice_index_or now i d) y m
+  pub parts_next : (y : Bridge) → IsBrought sheller (slice_index_or now i d) y m
       → parts_in (take (i + 1) (slice_set now i y))
-      ++ fresh_parts_from (behind m (outcome_of m (slice_index_or now i d).unit)) (units_in (drop (i + 1) old))
-      ≡ fresh_parts_from start (units_in old)
+      ++ fresh_parts_by_from sheller (behind m (outcome_of m (slice_index_or now i d).unit)) (units_in (drop
+      (i + 1) old))
+      ≡ fresh_parts_by_from sheller start (units_in old)
   unfolding b
   parts_next y brought =
-      ap (λ bs. parts_in bs ++ fresh_parts_from (behind m (outcome_of m b.unit)) (units_in (drop (i + 1) old)))
+      ap (λ bs. parts_in bs ++ fresh_parts_by_from sheller (behind m (outcome_of m b.unit)) (units_in (drop
+      (i + 1) old)))
       (more_taken y)
-      ∙ ap (λ ks. ks ++ fresh_parts_from (behind m (outcome_of m b.unit)) (units_in (drop (i + 1) old)))
+      ∙ ap (λ ks. ks ++ fresh_parts_by_from sheller (behind m (outcome_of m b.unit)) (units_in (drop (i + 1) old)))
       (map-append (λ (w : Bridge). kept_parts w.parts) (take i now) (y ∷ []))
       ∙ append_assoc (parts_in (take i now)) (kept_parts y.parts ∷ [])
-      (fresh_parts_from (behind m (outcome_of m b.unit)) (units_in (drop (i + 1) old)))
+      (fresh_parts_by_from sheller (behind m (outcome_of m b.unit)) (units_in (drop (i + 1) old)))
       ∙ ap (λ k. parts_in (take i now)
-      ++ k ∷ fresh_parts_from (behind m (outcome_of m b.unit)) (units_in (drop (i + 1) old)))
+      ++ k ∷ fresh_parts_by_from sheller (behind m (outcome_of m b.unit)) (units_in (drop (i + 1) old)))
       brought.parts
-      ∙ ap (λ bs. parts_in (take i now) ++ fresh_parts_from m (units_in bs)) (sym ahead)
+      ∙ ap (λ bs. parts_in (take i now) ++ fresh_parts_by_from sheller m (units_in bs)) (sym ahead)
       ∙ p.parts
 
   pub marks_next : (y : Bridge) → flags_of_parts y.parts
-      ≡ part_flags m (slice_index_or now i d).unit (kept_parts (slice_index_or now i d).parts)
+      ≡ part_flags_by sheller m (slice_index_or now i d).unit (kept_parts (slice_index_or now i d).parts)
       → part_flags_in (take (i + 1) (slice_set now i y))
-      ++ part_flags_from (behind m (outcome_of m (slice_index_or now i d).unit)) (entries_of (drop (i + 1) old))
+      ++ part_flags_by_from sheller (behind m (outcome_of m (slice_index_or now i d).unit)) (entries_of (drop
+      (i + 1) old))
       (parts_in (drop (i + 1) old))
-      ≡ part_flags_from start (entries_of old) (parts_in old)
+      ≡ part_flags_by_from sheller start (entries_of old) (parts_in old)
   unfolding b
   marks_next y mark =
       let rest : List (List Bool) =
-      part_flags_from (behind m (outcome_of m b.unit)) (entries_of (drop (i + 1) old)) (parts_in (drop (i + 1) old)) in
+      part_flags_by_from sheller (behind m (outcome_of m b.unit)) (entries_of (drop (i + 1) old)) (parts_in (drop
+      (i + 1) old)) in
       ap (λ bs. part_flags_in bs ++ rest) (more_taken y)
       ∙ ap (λ fs. fs ++ rest) (map-append (λ (w : Bridge). flags_of_parts w.parts) (take i now) (y ∷ []))
       ∙ append_assoc (part_flags_in (take i now)) (flags_of_parts y.parts ∷ []) rest
       ∙ ap (λ f. part_flags_in (take i now) ++ f ∷ rest) mark
-      ∙ ap (λ bs. part_flags_in (take i now) ++ part_flags_from m (entries_of bs) (parts_in bs)) (sym ahead)
+      ∙ ap (λ bs. part_flags_in (take i now) ++ part_flags_by_from sheller m (entries_of bs) (parts_in bs)) (sym ahead)
       ∙ p.marks
 
   pub rest_next : (y : Bridge) → drop (i + 1) (slice_set now i y) ≡ drop (i + 1) old
   rest_next y = drop-set-lt (i + 1) now i y (omega arith) ∙ sym others
 
-  pub next : (y : Bridge) (m1 : Moment) (flag1 : Bool) (after1 charge : ℕ) → IsBrought (slice_index_or now i d) y m
+  pub next : (y : Bridge) (m1 : Moment) (flag1 : Bool) (after1 charge : ℕ)
+      → IsBrought sheller (slice_index_or now i d) y m
       → flags_of_parts y.parts
-      ≡ part_flags m (slice_index_or now i d).unit (kept_parts (slice_index_or now i d).parts)
-      → y.renewed ≡ not (fits m (wide_outcome (slice_index_or now i d).kept))
+      ≡ part_flags_by sheller m (slice_index_or now i d).unit (kept_parts (slice_index_or now i d).parts)
+      → y.renewed ≡ not (unit_stays_by sheller m (entry_of (slice_index_or now i d))
+      (kept_parts (slice_index_or now i d).parts))
       → m1 ≡ behind m (outcome_of m (slice_index_or now i d).unit)
-      → charge ≡ charge_with m (entry_of (slice_index_or now i d)) (kept_parts (slice_index_or now i d).parts)
+      → charge ≡ charge_by sheller m (entry_of (slice_index_or now i d)) (kept_parts (slice_index_or now i d).parts)
       (first_spare (drop i spares))
       → after1 ≡ after + charge → charge + m1.left ≤ m.left
       → IsSound y
@@ -255,7 +267,7 @@ module _ (old now : List Bridge) (spares : Spares) (start : Moment) (i : ℕ) (m
       → y.source ≡ (slice_index_or now i d).source
       → (flag1 ≡ true
       → (flag ≡ true) × (m1.env ≡ env_behind m.env (wide_outcome (slice_index_or now i d).kept)))
-      → Partway old (slice_set now i y) spares start (i + 1) m1 flag1 before after1 (spent + charge)
+      → Partway sheller old (slice_set now i y) spares start (i + 1) m1 flag1 before after1 (spent + charge)
   unfolding b
   next y m1 flag1 after1 charge brought mark is_r is_m is_charge is_after most sound kept same source goes =
       record {
@@ -268,37 +280,44 @@ module _ (old now : List Bridge) (spares : Spares) (start : Moment) (i : ℕ) (m
             ap (λ n. entries_of (take (i + 1) (slice_set now i y)) ++ fresh_from n (units_in (drop (i + 1) old))) is_m
             ∙ front_next y brought;
         parts =
-            ap (λ n. parts_in (take (i + 1) (slice_set now i y)) ++ fresh_parts_from n (units_in (drop (i + 1) old)))
+            ap (λ n. parts_in (take (i + 1) (slice_set now i y)) ++ fresh_parts_by_from sheller n (units_in (drop
+            (i + 1) old)))
             is_m
             ∙ parts_next y brought;
         marks =
             ap (λ n. part_flags_in (take (i + 1) (slice_set now i y))
-            ++ part_flags_from n (entries_of (drop (i + 1) old)) (parts_in (drop (i + 1) old))) is_m
+            ++ part_flags_by_from sheller n (entries_of (drop (i + 1) old)) (parts_in (drop (i + 1) old))) is_m
             ∙ marks_next y mark;
         rest = rest_next y;
         flags =
-            ap (λ bs. flags_of bs ++ reached_from m1 (entries_of (drop (i + 1) old))) (more_taken y)
-            ∙ ap (λ fs. fs ++ reached_from m1 (entries_of (drop (i + 1) old)))
+            ap (λ bs. flags_of bs ++ reached_by_from sheller m1 (entries_of (drop (i + 1) old)) (parts_in (drop
+            (i + 1) old))) (more_taken y)
+            ∙ ap (λ fs. fs ++ reached_by_from sheller m1 (entries_of (drop (i + 1) old)) (parts_in (drop (i + 1) old)))
             (map-append (λ (w : Bridge). w.renewed) (take i now) (y ∷ []))
-            ∙ append_assoc (flags_of (take i now)) (y.renewed ∷ []) (reached_from m1 (entries_of (drop (i + 1) old)))
-            ∙ ap (λ n. flags_of (take i now) ++ y.renewed ∷ reached_from n (entries_of (drop (i + 1) old))) is_m
+            ∙ append_assoc (flags_of (take i now)) (y.renewed ∷ []) (reached_by_from sheller m1 (entries_of (drop
+            (i + 1) old)) (parts_in (drop (i + 1) old)))
+            ∙ ap (λ n. flags_of (take i now) ++ y.renewed ∷ reached_by_from sheller n (entries_of (drop (i + 1) old))
+            (parts_in (drop (i + 1) old))) is_m
             ∙ ap (λ r. flags_of (take i now)
-            ++ r ∷ reached_from (behind m (outcome_of m b.unit)) (entries_of (drop (i + 1) old))) is_r
-            ∙ ap (λ bs. flags_of (take i now) ++ reached_from m (entries_of bs)) (sym ahead)
+            ++ r ∷ reached_by_from sheller (behind m (outcome_of m b.unit)) (entries_of (drop (i + 1) old)) (parts_in
+            (drop (i + 1) old))) is_r
+            ∙ ap (λ bs. flags_of (take i now) ++ reached_by_from sheller m (entries_of bs) (parts_in bs)) (sym ahead)
             ∙ p.flags;
         steps =
             let rest : List Bridge = drop (i + 1) old in
-            let more : charges_with m (entries_of (drop i old)) (parts_in (drop i old)) (drop i spares)
-            ≡ charge_with m (entry_of b) (kept_parts b.parts) (first_spare (drop i spares))
-            + charges_with (behind m (outcome_of m b.unit)) (entries_of rest) (parts_in rest) (drop 1 (drop i spares)) =
-            ap (λ bs. charges_with m (entries_of bs) (parts_in bs) (drop i spares)) ahead in
-            let moved : charges_with m1 (entries_of rest) (parts_in rest) (drop (i + 1) spares)
-            ≡ charges_with (behind m (outcome_of m b.unit)) (entries_of rest) (parts_in rest) (drop 1 (drop i spares)) =
-            ap (λ n. charges_with n (entries_of rest) (parts_in rest) (drop (i + 1) spares)) is_m
-            ∙ ap (charges_with (behind m (outcome_of m b.unit)) (entries_of rest) (parts_in rest))
+            let more : charges_by sheller m (entries_of (drop i old)) (parts_in (drop i old)) (drop i spares)
+            ≡ charge_by sheller m (entry_of b) (kept_parts b.parts) (first_spare (drop i spares))
+            + charges_by sheller (behind m (outcome_of m b.unit)) (entries_of rest) (parts_in rest) (drop 1
+            (drop i spares)) =
+            ap (λ bs. charges_by sheller m (entries_of bs) (parts_in bs) (drop i spares)) ahead in
+            let moved : charges_by sheller m1 (entries_of rest) (parts_in rest) (drop (i + 1) spares)
+            ≡ charges_by sheller (behind m (outcome_of m b.unit)) (entries_of rest) (parts_in rest) (drop 1
+            (drop i spares)) =
+            ap (λ n. charges_by sheller n (entries_of rest) (parts_in rest) (drop (i + 1) spares)) is_m
+            ∙ ap (charges_by sheller (behind m (outcome_of m b.unit)) (entries_of rest) (parts_in rest))
             (sym (drop-drop 1 i spares)) in
-            let was : after + charges_with m (entries_of (drop i old)) (parts_in (drop i old)) (drop i spares)
-            ≡ before + charges_with start (entries_of old) (parts_in old) spares = p.steps in
+            let was : after + charges_by sheller m (entries_of (drop i old)) (parts_in (drop i old)) (drop i spares)
+            ≡ before + charges_by sheller start (entries_of old) (parts_in old) spares = p.steps in
             omega (arith, more, moved, was, is_charge, is_after);
         sound = All-set IsSound now i y sound p.sound;
         units = units_next y brought.unit;
@@ -308,10 +327,10 @@ module _ (old now : List Bridge) (spares : Spares) (start : Moment) (i : ℕ) (m
       }
 
 -- the first units are brought there, and the others as they were
-abbrev pub Stops : Moment → List Bridge → List Bridge → Type 0
-Stops start old now =
+abbrev pub Stops : Sheller → Moment → List Bridge → List Bridge → Type 0
+Stops sheller start old now =
     (n : ℕ) × (entries_of now ≡ take n (fresh_from start (units_in old)) ++ drop n (entries_of old))
-    × (parts_in now ≡ take n (fresh_parts_from start (units_in old)) ++ drop n (parts_in old))
+    × (parts_in now ≡ take n (fresh_parts_by_from sheller start (units_in old)) ++ drop n (parts_in old))
 
 map_take : (n : ℕ) (bs : List Bridge) → length (entries_of (take n bs)) ≡ length (take n bs)
 map_take n bs = length-map (take n bs) entry_of
@@ -341,73 +360,80 @@ drop_parts zero bs = refl
 drop_parts (suc n) [] = refl
 drop_parts (suc n) (b ∷ bs) = drop_parts n bs
 
-parts_stopped : (start : Moment) (old now : List Bridge) (i : ℕ) (m : Moment)
-    → parts_in (take i now) ++ fresh_parts_from m (units_in (drop i old)) ≡ fresh_parts_from start (units_in old)
+parts_stopped : (sheller : Sheller) (start : Moment) (old now : List Bridge) (i : ℕ) (m : Moment)
+    → parts_in (take i now) ++ fresh_parts_by_from sheller m (units_in (drop i old))
+    ≡ fresh_parts_by_from sheller start (units_in old)
     → drop i now ≡ drop i old → i ≤ length now
-    → parts_in now ≡ take i (fresh_parts_from start (units_in old)) ++ drop i (parts_in old)
-parts_stopped start old now i m fresh rest inside =
+    → parts_in now ≡ take i (fresh_parts_by_from sheller start (units_in old)) ++ drop i (parts_in old)
+parts_stopped sheller start old now i m fresh rest inside =
     let many : length (take i now) ≡ i = grind (arith, common_steps, inside) in
     let one : Bridge → KeptParts = λ w. kept_parts w.parts in
     ap parts_in (sym (take-append-drop i now))
     ∙ map-append one (take i now) (drop i now)
     ∙ ap (λ ks. ks ++ parts_in (drop i now))
-    (sym (take_at (parts_in (take i now)) (fresh_parts_from m (units_in (drop i old))) i
+    (sym (take_at (parts_in (take i now)) (fresh_parts_by_from sheller m (units_in (drop i old))) i
     (length-map (take i now) one ∙ many))
     ∙ ap (take i) fresh)
-    ∙ ap (λ bs. take i (fresh_parts_from start (units_in old)) ++ parts_in bs) rest
-    ∙ ap (λ ks. take i (fresh_parts_from start (units_in old)) ++ ks) (drop_parts i old)
+    ∙ ap (λ bs. take i (fresh_parts_by_from sheller start (units_in old)) ++ parts_in bs) rest
+    ∙ ap (λ ks. take i (fresh_parts_by_from sheller start (units_in old)) ++ ks) (drop_parts i old)
 
 -- the refresh of unit i failed, before or behind its evaluation
-pub stops : (old now : List Bridge) (spares : Spares) (start : Moment) (i : ℕ) (m : Moment) (flag : Bool)
-    (before after spent : ℕ) → Partway old now spares start i m flag before after spent → i < length now
+pub stops : (sheller : Sheller) (old now : List Bridge) (spares : Spares) (start : Moment) (i : ℕ) (m : Moment)
+    (flag : Bool)
+    (before after spent : ℕ) → Partway sheller old now spares start i m flag before after spent → i < length now
     → (d y : Bridge) → y.unit ≡ (slice_index_or now i d).unit
     → (y ≡ slice_index_or now i d) ⊎ (wide_outcome y.kept ≡ outcome_of m (slice_index_or now i d).unit)
-    × (kept_parts y.parts ≡ fresh_parts m (slice_index_or now i d).unit)
-    → Stops start old (slice_set now i y)
-stops old now spares start i m flag before after spent p inside d y unit (inl same) = (
+    × (kept_parts y.parts ≡ fresh_parts_by sheller m (slice_index_or now i d).unit)
+    → Stops sheller start old (slice_set now i y)
+stops sheller old now spares start i m flag before after spent p inside d y unit (inl same) = (
   i,
   ap entries_of (ap (slice_set now i) same ∙ set-get_or now i d)
       ∙ stopped start old now i m p.fresh p.rest (omega arith),
   ap parts_in (ap (slice_set now i) same ∙ set-get_or now i d)
-      ∙ parts_stopped start old now i m p.parts p.rest (omega arith),
+      ∙ parts_stopped sheller start old now i m p.parts p.rest (omega arith),
 )
-stops old now spares start i m flag before after spent p inside d y unit (inr fresh) =
+stops sheller old now spares start i m flag before after spent p inside d y unit (inr fresh) =
     let many : i + 1 ≤ length (slice_set now i y) = grind (arith, common_steps, inside) in (
       i + 1,
       stopped start old (slice_set now i y) (i + 1) (behind m (outcome_of m (slice_index_or now i d).unit))
-          (front_next old now spares start i m flag before after spent p inside d y
+          (front_next sheller old now spares start i m flag before after spent p inside d y
           (record { unit = unit; fresh = fresh.0; parts = fresh.1 }))
-          (rest_next old now spares start i m flag before after spent p inside d y) many,
-      parts_stopped start old (slice_set now i y) (i + 1) (behind m (outcome_of m (slice_index_or now i d).unit))
-          (parts_next old now spares start i m flag before after spent p inside d y
+          (rest_next sheller old now spares start i m flag before after spent p inside d y) many,
+      parts_stopped sheller start old (slice_set now i y) (i + 1) (behind m (outcome_of m
+          (slice_index_or now i d).unit))
+          (parts_next sheller old now spares start i m flag before after spent p inside d y
           (record { unit = unit; fresh = fresh.0; parts = fresh.1 }))
-          (rest_next old now spares start i m flag before after spent p inside d y) many,
+          (rest_next sheller old now spares start i m flag before after spent p inside d y) many,
     )
 
 -- all units are behind
-pub ended : (old now : List Bridge) (spares : Spares) (start : Moment) (i : ℕ) (m : Moment) (flag : Bool)
-    (before after spent : ℕ) → Partway old now spares start i m flag before after spent → length now ≤ i
-    → (entries_of now ≡ fresh_from start (units_in old)) × (flags_of now ≡ reached_from start (entries_of old))
-    × (spent ≡ charges_with start (entries_of old) (parts_in old) spares)
-    × (parts_in now ≡ fresh_parts_from start (units_in old))
-    × (part_flags_in now ≡ part_flags_from start (entries_of old) (parts_in old))
-ended old now spares start i m flag before after spent p past =
+pub ended : (sheller : Sheller) (old now : List Bridge) (spares : Spares) (start : Moment) (i : ℕ) (m : Moment)
+    (flag : Bool)
+    (before after spent : ℕ) → Partway sheller old now spares start i m flag before after spent → length now ≤ i
+    → (entries_of now ≡ fresh_from start (units_in old)) × (flags_of now ≡ reached_by_from sheller start
+    (entries_of old) (parts_in old))
+    × (spent ≡ charges_by sheller start (entries_of old) (parts_in old) spares)
+    × (parts_in now ≡ fresh_parts_by_from sheller start (units_in old))
+    × (part_flags_in now ≡ part_flags_by_from sheller start (entries_of old) (parts_in old))
+ended sheller old now spares start i m flag before after spent p past =
     let whole : take i now ≡ now = grind (arith, common_steps, past) in
     let none : drop i old ≡ [] = sym p.rest ∙ drop_all i now past in
-    let left : charges_with m (entries_of (drop i old)) (parts_in (drop i old)) (drop i spares) ≡ 0 =
-    ap (λ bs. charges_with m (entries_of bs) (parts_in bs) (drop i spares)) none in
-    let sum : after + charges_with m (entries_of (drop i old)) (parts_in (drop i old)) (drop i spares)
-    ≡ before + charges_with start (entries_of old) (parts_in old) spares = p.steps in
+    let left : charges_by sheller m (entries_of (drop i old)) (parts_in (drop i old)) (drop i spares) ≡ 0 =
+    ap (λ bs. charges_by sheller m (entries_of bs) (parts_in bs) (drop i spares)) none in
+    let sum : after + charges_by sheller m (entries_of (drop i old)) (parts_in (drop i old)) (drop i spares)
+    ≡ before + charges_by sheller start (entries_of old) (parts_in old) spares = p.steps in
     let paid : after ≡ before + spent = p.paid in (
       sym (append-nil (entries_of now)) ∙ ap (λ bs. entries_of bs ++ []) (sym whole)
           ∙ ap (λ bs. entries_of (take i now) ++ fresh_from m (units_in bs)) (sym none) ∙ p.fresh,
       sym (append-nil (flags_of now)) ∙ ap (λ bs. flags_of bs ++ []) (sym whole)
-          ∙ ap (λ bs. flags_of (take i now) ++ reached_from m (entries_of bs)) (sym none) ∙ p.flags,
+          ∙ ap (λ bs. flags_of (take i now) ++ reached_by_from sheller m (entries_of bs) (parts_in bs)) (sym none)
+          ∙ p.flags,
       omega (arith, left, sum, paid),
       sym (append-nil (parts_in now)) ∙ ap (λ bs. parts_in bs ++ []) (sym whole)
-          ∙ ap (λ bs. parts_in (take i now) ++ fresh_parts_from m (units_in bs)) (sym none) ∙ p.parts,
+          ∙ ap (λ bs. parts_in (take i now) ++ fresh_parts_by_from sheller m (units_in bs)) (sym none) ∙ p.parts,
       sym (append-nil (part_flags_in now)) ∙ ap (λ bs. part_flags_in bs ++ []) (sym whole)
-          ∙ ap (λ bs. part_flags_in (take i now) ++ part_flags_from m (entries_of bs) (parts_in bs)) (sym none)
+          ∙ ap (λ bs. part_flags_in (take i now) ++ part_flags_by_from sheller m (entries_of bs) (parts_in bs))
+          (sym none)
           ∙ p.marks,
     )
 

@@ -7,7 +7,7 @@ use Rattle.std.proofs.lemmas.List.Elements.{All-from_recursion, recursion_from_A
 use Rattle.std.proofs.lemmas.Option.{slice_get-map, slice_get_within}
 use Rattle.std.specs.List.{All, AllByRecursion, IsDistinct}
 use Rattle.std.specs.Option.{option_map, option_map_or}
-use Rattle.std.specs.Prelude.{slice_get, IfOk, Ok, Err, Result}
+use Rattle.std.specs.Prelude.{false, slice_get, IfOk, Ok, Err, Result}
 use Rattle.std.specs.Str.{bytes_eq}
 use Rattle.tx_tree.specs.WideTree.{WideTree}
 use Rattle.tx_mod.specs.declared.mods.Mod.{Mod}
@@ -179,7 +179,7 @@ none_comes : (ps : List PartMove) (us : List DocUnit) → AllByRecursion IsPlace
 unfolding Fits
 none_comes ps us placed none k n u e at =
     subst (λ qs. IsSound (joined_by qs (fresh_bridge u))) (sym (none n (omega (arith, e, slice_get_within us k u at))))
-    (record { holds = tt; once = tt; placed = each_placed us k u placed at; parts = no_parts u })
+    (record { holds = tt; once = tt; placed = each_placed us k u placed at; parts = no_parts false u })
 
 no_parts_kept : (ps : List DonePart) → kept_parts ps ≡ [] → ps ≡ []
 no_parts_kept [] e = refl
@@ -209,7 +209,7 @@ some_come ms t w old us ks ps through_all law made stand apart sound aside moves
       holds = tt;
       once = tt;
       placed = each_placed us k u placed at;
-      parts = record { hold = hold.0; distinct = hold.1; all = tt };
+      parts = record { hold = hold.0; distinct = hold.1; all = λ off. tt };
     }
 
 coming_fits : (buffer : ℕ) (ms : List Mod) (t : WideTree) (old : List Bridge) (us : List DocUnit) (ks : KeptParts)

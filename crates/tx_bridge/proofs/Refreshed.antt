@@ -11,7 +11,8 @@ use Rattle.tx_view_form.specs.Outcomes.{Moment}
 use Rattle.tx_bridge.specs.declared.bridge.Bridge.{Bridge}
 use Rattle.tx_bridge.specs.Moments.{beginning_with}
 use Rattle.tx_bridge.specs.Entries.{Kept, units_of, fresh_from}
-use Rattle.tx_bridge.specs.PartsKept.{KeptParts, fresh_parts_from}
+use Rattle.tx_parts.specs.Opening.{Sheller}
+use Rattle.tx_bridge.specs.PartsKept.{KeptParts, fresh_parts_by_from}
 use Rattle.tx_bridge.specs.Settled.{AreSettled}
 use Rattle.tx_bridge.specs.Sound.{entries_of, parts_in, flags_of}
 use Rattle.tx_bridge.proofs.Partway.{Stops}
@@ -27,19 +28,20 @@ stays_whole f items whole old olds is had h k flag =
     ∙ ap (λ xs. slice_get xs k) had
 
 -- where memory ran out
-abbrev pub Refused : Moment → Kept → List KeptParts → List Bridge → Type 0
-Refused start kept parts now =
+abbrev pub Refused : Sheller → Moment → Kept → List KeptParts → List Bridge → Type 0
+Refused sheller start kept parts now =
     (n : ℕ) × (entries_of now ≡ take n (fresh_from start (units_of kept)) ++ drop n kept)
-    × (parts_in now ≡ take n (fresh_parts_from start (units_of kept)) ++ drop n parts)
+    × (parts_in now ≡ take n (fresh_parts_by_from sheller start (units_of kept)) ++ drop n parts)
 
-pub refused : (m start : Moment) (old items whole : List Bridge) (kept : Kept) (parts : List KeptParts) → m ≡ start
-    → whole ≡ items → entries_of old ≡ kept → parts_in old ≡ parts → Stops m old items
-    → Refused start kept parts whole
-refused m start old items whole kept parts is same had were h =
-    subst (λ k. Refused k kept parts whole) is
-    (subst (Refused m kept parts) (sym same)
-    (subst (λ es. Refused m es parts items) had
-    (subst (λ pss. Refused m (entries_of old) pss items) were h)))
+pub refused : (sheller : Sheller) (m start : Moment) (old items whole : List Bridge) (kept : Kept)
+    (parts : List KeptParts) → m ≡ start
+    → whole ≡ items → entries_of old ≡ kept → parts_in old ≡ parts → Stops sheller m old items
+    → Refused sheller start kept parts whole
+refused sheller m start old items whole kept parts is same had were h =
+    subst (λ k. Refused sheller k kept parts whole) is
+    (subst (Refused sheller m kept parts) (sym same)
+    (subst (λ es. Refused sheller m es parts items) had
+    (subst (λ pss. Refused sheller m (entries_of old) pss items) were h)))
 
 -- without names the refresh begins with none set, and leaves what settles in itself
 none_set : (m : Moment) (start : List (Name × WideTree)) → m ≡ beginning_with start → length start ≡ 0

@@ -15,7 +15,9 @@ use Rattle.tx_exec_form.specs.Runs.{Before}
 use Rattle.tx_exec_form.specs.Evaluated.{WideTrace, evaluated_in}
 use Rattle.tx_exec_form.specs.Laws.{Agrees, Supports}
 use Rattle.tx_parts.specs.Composed.{alone, evaluates}
-use Rattle.tx_parts.specs.Parts.{Part, HasTrace, parts, part_trace, Stored, stored}
+use Rattle.tx_parts.specs.Opening.{Sheller}
+use Rattle.tx_parts.specs.Shellers.{IsSheller}
+use Rattle.tx_parts.specs.Parts.{Part, HasTrace, parts_by, part_trace, Stored, stored}
 use Rattle.tx_parts.specs.Standing.{StandsIn}
 use Rattle.tx_walk.specs.declared.part.Part.{Part as DonePart}
 use Rattle.tx_walk.specs.Held.{IsSound as ServesTree, fits, serves}
@@ -25,8 +27,8 @@ use Rattle.tx_units.specs.declared.kinds.Unit.{Unit as DocUnit}
 use Rattle.tx_view_form.specs.Outcomes.{Moment, allowance, behind}
 use Rattle.tx_bridge.specs.declared.bridge.Bridge.{Bridge}
 use Rattle.tx_bridge.specs.Entries.{units_of, outcome_of}
-use Rattle.tx_bridge.specs.PartsKept.{KeptParts, kept_at, has_parts, unit_parts, parts_if_done, fresh_parts}
-use Rattle.tx_bridge.specs.PartsKept.{fresh_parts_from, flags_if_done, part_flags, part_flags_from, PartsStay}
+use Rattle.tx_bridge.specs.PartsKept.{KeptParts, kept_at, has_parts, unit_parts_by, parts_if_done, fresh_parts_by}
+use Rattle.tx_bridge.specs.PartsKept.{fresh_parts_by_from, flags_if_done, part_flags_by, part_flags_by_from, PartsStay}
 use Rattle.tx_bridge.specs.HeldParts.{HoldsPart, kept_parts}
 use Rattle.tx_bridge.specs.Sound.{IsSound, entries_of, parts_in, part_flags_in}
 use Rattle.tx_bridge.specs.UnitLists.{IsPlaced}
@@ -39,13 +41,13 @@ AllOver = (k c : ℕ) (t : TaggedTree) (e : Before) (trace : WideTrace) → eval
     (d : Before) → Agrees d trace.looks → (n < trace.cost) ⊎ (m < trace.height) → evaluated_in m n t d ≡ None
 
 abbrev pub AllTraced : Type 0
-AllTraced = (k c : ℕ) (path : List ℕ) (t : WideTree) (e : Before) (trace : WideTrace) → evaluates k c t e ≡ Some trace
-    → AllByRecursion HasTrace (parts k c path t e)
+AllTraced = (sheller : Sheller) → IsSheller sheller → (k c : ℕ) (path : List ℕ) (t : WideTree) (e : Before)
+    (trace : WideTrace) → evaluates k c t e ≡ Some trace → AllByRecursion HasTrace (parts_by sheller k c path t e)
 
 -- ---- one part
 
 -- where a tree comes to a trace, this is one that supports it and agrees
-only_one : AllOver → (k c : ℕ) (t : TaggedTree) (e : Before) (trace come : WideTrace) → Supports trace t
+pub only_one : AllOver → (k c : ℕ) (t : TaggedTree) (e : Before) (trace come : WideTrace) → Supports trace t
     → Agrees e trace.looks → evaluated_in k c t e ≡ Some come → Some trace ≡ evaluated_in k c t e
 only_one over k c t e trace come support agree is =
     by (leb trace.cost c) (leb trace.height k) refl refl
@@ -98,43 +100,48 @@ module _ (over : AllOver) (t : WideTree) (ds : List DonePart) (hold : AllByRecur
 
 -- ---- of one unit, and of all
 
-module _ (over : AllOver) (stand : AllStandIn) (traced : AllTraced) where
-  unit_stays : (m : Moment) (u : DocUnit) (ds : List DonePart) → IsPlaced u
-      → AllByRecursion (HoldsPart u.tagged.tree) ds → (k : ℕ) (s : Stored) → slice_get (fresh_parts m u) k ≡ Some s
-      → slice_get (part_flags m u (kept_parts ds)) k ≡ Some false → kept_at (kept_parts ds) s.path ≡ s.trace
-  unit_stays m u ds placed hold k s = by (has_parts u) (outcome_of m u) refl refl
-    where
-      by : (b : Bool) (o : Option WideTrace) → has_parts u ≡ b → outcome_of m u ≡ o
-          → slice_get (if b then parts_if_done o (unit_parts m u) else []) k ≡ Some s
-          → slice_get (if b then flags_if_done o (kept_at (kept_parts ds)) (unit_parts m u) else []) k ≡ Some false
-          → kept_at (kept_parts ds) s.path ≡ s.trace
-      by false o n e f g = cc
-      by true None n e f g = cc
-      by true (Some trace) n e f g =
-          each_stays over u.tagged.tree ds hold (unit_parts m u)
-          (stand MOST_LEVELS (allowance m) [] u.tagged.tree (get m.env))
-          (traced MOST_LEVELS (allowance m) [] u.tagged.tree (get m.env) trace
-          (outcome_there u m m.env m.left (allowance m) refl refl placed n ∙ e)) k s f g
+module _ (over : AllOver) (stand : AllStandIn) (traced : AllTraced) (sheller : Sheller) (sound_by : IsSheller sheller)
+  where
+    unit_stays : (m : Moment) (u : DocUnit) (ds : List DonePart) → IsPlaced u
+        → AllByRecursion (HoldsPart u.tagged.tree) ds → (k : ℕ) (s : Stored) → slice_get (fresh_parts_by sheller m u) k
+        ≡ Some s
+        → slice_get (part_flags_by sheller m u (kept_parts ds)) k ≡ Some false → kept_at (kept_parts ds) s.path
+        ≡ s.trace
+    unit_stays m u ds placed hold k s = by (has_parts u) (outcome_of m u) refl refl
+      where
+        by : (b : Bool) (o : Option WideTrace) → has_parts u ≡ b → outcome_of m u ≡ o
+            → slice_get (if b then parts_if_done o (unit_parts_by sheller m u) else []) k ≡ Some s
+            → slice_get (if b then flags_if_done o (kept_at (kept_parts ds)) (unit_parts_by sheller m u) else []) k
+            ≡ Some false
+            → kept_at (kept_parts ds) s.path ≡ s.trace
+        by false o n e f g = cc
+        by true None n e f g = cc
+        by true (Some trace) n e f g =
+            each_stays over u.tagged.tree ds hold (unit_parts_by sheller m u)
+            (stand sheller MOST_LEVELS (allowance m) [] u.tagged.tree (get m.env))
+            (traced sheller sound_by MOST_LEVELS (allowance m) [] u.tagged.tree (get m.env) trace
+            (outcome_there u m m.env m.left (allowance m) refl refl placed n ∙ e)) k s f g
 
-  units_stay : (m : Moment) (bs : List Bridge) → AllByRecursion IsSound bs
-      → PartsStay (parts_in bs) (fresh_parts_from m (units_of (entries_of bs)))
-      (part_flags_from m (entries_of bs) (parts_in bs))
-  units_stay m [] sound i k old new fs s is_old is_new is_fs at flag = cc
-  units_stay m (b ∷ bs) sound zero k old new fs s is_old is_new is_fs at flag =
-      ap (λ ks. kept_at ks s.path) (sym (same_Some (kept_parts b.parts) old is_old))
-      ∙ unit_stays m b.unit b.parts sound.0.placed sound.0.parts.hold k s
-      (ap (λ ks. slice_get ks k) (same_Some (fresh_parts m b.unit) new is_new) ∙ at)
-      (ap (λ gs. slice_get gs k) (same_Some (part_flags m b.unit (kept_parts b.parts)) fs is_fs) ∙ flag)
-  units_stay m (b ∷ bs) sound (suc i) k old new fs s is_old is_new is_fs at flag =
-      units_stay (behind m (outcome_of m b.unit)) bs sound.1 i k old new fs s is_old is_new is_fs at flag
+    units_stay : (m : Moment) (bs : List Bridge) → AllByRecursion IsSound bs
+        → PartsStay (parts_in bs) (fresh_parts_by_from sheller m (units_of (entries_of bs)))
+        (part_flags_by_from sheller m (entries_of bs) (parts_in bs))
+    units_stay m [] sound i k old new fs s is_old is_new is_fs at flag = cc
+    units_stay m (b ∷ bs) sound zero k old new fs s is_old is_new is_fs at flag =
+        ap (λ ks. kept_at ks s.path) (sym (same_Some (kept_parts b.parts) old is_old))
+        ∙ unit_stays m b.unit b.parts sound.0.placed sound.0.parts.hold k s
+        (ap (λ ks. slice_get ks k) (same_Some (fresh_parts_by sheller m b.unit) new is_new) ∙ at)
+        (ap (λ gs. slice_get gs k) (same_Some (part_flags_by sheller m b.unit (kept_parts b.parts)) fs is_fs) ∙ flag)
+    units_stay m (b ∷ bs) sound (suc i) k old new fs s is_old is_new is_fs at flag =
+        units_stay (behind m (outcome_of m b.unit)) bs sound.1 i k old new fs s is_old is_new is_fs at flag
 
-  pub parts_stay : (m : Moment) (bs items whole : List Bridge) (olds : List KeptParts) → All IsSound bs
-      → parts_in bs ≡ olds → parts_in items ≡ fresh_parts_from m (units_of (entries_of bs))
-      → part_flags_in items ≡ part_flags_from m (entries_of bs) (parts_in bs) → whole ≡ items
-      → PartsStay olds (parts_in whole) (part_flags_in whole)
-  parts_stay m bs items whole olds sound had are marks is =
-      subst (λ pss. PartsStay pss (parts_in whole) (part_flags_in whole)) had
-      (subst (λ ws. PartsStay (parts_in bs) (parts_in ws) (part_flags_in ws)) (sym is)
-      (subst (PartsStay (parts_in bs) (parts_in items)) (sym marks)
-      (subst (λ pss. PartsStay (parts_in bs) pss (part_flags_from m (entries_of bs) (parts_in bs))) (sym are)
-      (units_stay m bs (recursion_from_All IsSound bs sound)))))
+    pub parts_stay : (m : Moment) (bs items whole : List Bridge) (olds : List KeptParts) → All IsSound bs
+        → parts_in bs ≡ olds → parts_in items ≡ fresh_parts_by_from sheller m (units_of (entries_of bs))
+        → part_flags_in items ≡ part_flags_by_from sheller m (entries_of bs) (parts_in bs) → whole ≡ items
+        → PartsStay olds (parts_in whole) (part_flags_in whole)
+    parts_stay m bs items whole olds sound had are marks is =
+        subst (λ pss. PartsStay pss (parts_in whole) (part_flags_in whole)) had
+        (subst (λ ws. PartsStay (parts_in bs) (parts_in ws) (part_flags_in ws)) (sym is)
+        (subst (PartsStay (parts_in bs) (parts_in items)) (sym marks)
+        (subst (λ pss. PartsStay (parts_in bs) pss (part_flags_by_from sheller m (entries_of bs) (parts_in bs)))
+        (sym are)
+        (units_stay m bs (recursion_from_All IsSound bs sound)))))

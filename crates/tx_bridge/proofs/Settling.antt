@@ -44,7 +44,14 @@ AreAlike us vs = (k : ℕ) (u v : DocUnit) → slice_get us k ≡ Some u → sli
 -- the unit of number k is u now; nothing is kept of it where it is new
 abbrev pub settled_one : Bool → ℕ → Bridge → DocUnit → Bridge
 settled_one true k b u = fresh_bridge u
-settled_one false k b u = record { unit = u; kept = b.kept; parts = b.parts; renewed = false; source = Some k }
+settled_one false k b u = record {
+  unit = u;
+  kept = b.kept;
+  parts = b.parts;
+  shelled = b.shelled;
+  renewed = false;
+  source = Some k;
+}
 
 -- so it is of all from number k on, where number i is new
 abbrev pub settled : ℕ → ℕ → List Bridge → List DocUnit → List Bridge

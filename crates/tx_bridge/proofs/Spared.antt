@@ -1,9 +1,9 @@
--- Nothing is charged for a unit whose spare fits, and what is charged where nothing is spare.
-use Rattle.std.proofs.Common.{◌≡◌, ℕ, ◌+◌, List, [], ◌∷◌, map, Some, refl, ap, sym, ◌∙◌}
+-- A unit that stays, or whose spare fits, is charged for its layers alone. What is charged where nothing is spare.
+use Rattle.std.proofs.Common.{◌≡◌, ℕ, ◌+◌, List, [], ◌∷◌, map, Option, Some, refl, ap, sym, subst, ◌∙◌}
 use Rattle.std.proofs.Common.{leb-true, arith}
 use Rattle.std.proofs.lemmas.Slice.Eq.{bytes_eq-Decides}
 use Rattle.std.proofs.lemmas.List.Sums.{sum_by-cons}
-use Rattle.std.specs.Prelude.{Bool, true, false, ◌||◌, if◌then◌else◌, nat_le}
+use Rattle.std.specs.Prelude.{Bool, true, false, not, ◌&&◌, ◌||◌, if◌then◌else◌, nat_le}
 use Rattle.std.specs.List.{AllByRecursion, IsDistinct}
 use Rattle.std.specs.FinMap.{get}
 use Rattle.std.specs.Str.{bytes_eq}
@@ -12,133 +12,264 @@ use Rattle.tx_origin.specs.TaggedTrees.{tagged_of}
 use Rattle.tx_exec_form.specs.declared.TheConstants.{MOST_LEVELS}
 use Rattle.tx_exec_form.specs.Runs.{Before}
 use Rattle.tx_exec_form.specs.Evaluated.{WideTrace}
-use Rattle.tx_parts.specs.Composed.{alone, evaluates}
-use Rattle.tx_parts.specs.Parts.{Part, HasTrace, parts, part_trace, part_cost, stored}
-use Rattle.tx_walk.specs.Held.{Store, agrees, fits as part_fits, serves, charge_of as part_charge, charges}
-use Rattle.tx_walk.proofs.Agreed.{agrees_is, agrees_of}
+use Rattle.tx_parts.specs.Composed.{evaluates}
+use Rattle.tx_parts.specs.Opening.{Sheller, closed}
+use Rattle.tx_parts.specs.Shellers.{IsSheller}
+use Rattle.tx_parts.specs.LayerCosts.{holds_nothing, layer_costs_by}
+use Rattle.tx_parts.specs.Parts.{Part, HasTrace, parts_by, part_cost, Stored, stored}
+use Rattle.tx_walk.specs.Held.{Store, Stores, agrees, fits as part_fits, serves, charge_of as part_charge}
+use Rattle.tx_walk.specs.Held.{only, charges}
+use Rattle.tx_walk.proofs.Agreed.{agrees_is}
 use Rattle.tx_walk.proofs.Found.{if_true, if_false}
 use Rattle.tx_walk.proofs.Trees.{both}
 use Rattle.tx_units.specs.declared.kinds.Unit.{Unit as DocUnit}
 use Rattle.tx_view_form.specs.Outcomes.{Moment, allowance, charge, behind}
 use Rattle.tx_bridge.specs.Entries.{Entry, Kept, outcome_of}
-use Rattle.tx_bridge.specs.Reached.{fits}
-use Rattle.tx_bridge.specs.PartsKept.{KeptParts, kept_at, has_parts, unit_parts, parts_if_done, fresh_parts}
-use Rattle.tx_bridge.specs.PartsKept.{charge_of, charges_from}
-use Rattle.tx_bridge.specs.Spares.{stores_with, unit_charge_with, charge_with, charges_with}
+use Rattle.tx_bridge.specs.Reached.{fits, is_kept, are_kept, unit_stays_by}
+use Rattle.tx_bridge.specs.PartsKept.{KeptParts, kept_at, has_parts, unit_parts, unit_parts_by, parts_if_done}
+use Rattle.tx_bridge.specs.PartsKept.{fresh_parts, fresh_parts_by}
+use Rattle.tx_bridge.specs.Spares.{UnitSpare, nothing_spare}
+use Rattle.tx_bridge.specs.Charges.{layers_charge, parts_charge_by, whole_charge, unit_charge_by, is_charged, charge_by}
+use Rattle.tx_bridge.specs.Charges.{charge_with, charges_with, unit_charge, charge_of, charges_from}
 use Rattle.tx_bridge.specs.UnitLists.{IsPlaced}
 use Rattle.tx_bridge.proofs.ByParts.{AllSameStored, both_stores, outcome_there}
 use Rattle.tx_bridge.proofs.Remaining.{AllTraced}
+use Rattle.tx_bridge.proofs.Staying.{stored_kept}
 use Rattle.tx_bridge.proofs.Used.{AllSupport, AllAllowed, AllAgree, fits_is, outcome_holds}
+
+-- laws of shells, as the calls state them
+abbrev pub LayersFree : Type 0
+LayersFree = (k c : ℕ) (t : WideTree) (e : Before) → layer_costs_by holds_nothing closed k c t e ≡ 0
+
+abbrev pub AllDistinct : Type 0
+AllDistinct = (sheller : Sheller) (k c : ℕ) (path : List ℕ) (t : WideTree) (e : Before)
+    → IsDistinct bytes_eq (map (λ p. p.path) (parts_by sheller k c path t e))
 
 -- ---- where nothing is spare
 
-pub nothing_charged : (m : Moment) (es : Kept) (pss : List KeptParts) → charges_with m es pss [] ≡ charges_from m es pss
-nothing_charged m [] pss = refl
-nothing_charged m (e ∷ es) [] = refl
-nothing_charged m (e ∷ es) (ps ∷ pss) =
-    ap (λ n. charge_of m e ps + n) (nothing_charged (behind m (outcome_of m e.unit)) es pss)
+parts_alone : LayersFree → (m : Moment) (u : DocUnit) (ps : KeptParts)
+    → parts_charge_by closed m u ps [] ≡ charges (only (kept_at ps)) (unit_parts m u)
+parts_alone free m u ps =
+    let none : layer_costs_by holds_nothing closed MOST_LEVELS (allowance m) u.tagged.tree (get m.env) ≡ 0 =
+    free MOST_LEVELS (allowance m) u.tagged.tree (get m.env) in
+    omega (arith, none)
 
--- ---- parts whose traces are all at hand
+unit_alone : LayersFree → (m : Moment) (u : DocUnit) (ps : KeptParts)
+    → unit_charge_by closed m u ps nothing_spare ≡ unit_charge m u ps
+unit_alone free m u ps =
+    ap (λ n. if has_parts u then n else charge m (outcome_of m u)) (parts_alone free m u ps)
 
--- at the path of each part stands its trace
-abbrev AreStored : Store → List Part → Type 0
-AreStored kept ps = AllByRecursion (λ p. kept p.path ≡ part_trace p) ps
+pub nothing_charged : LayersFree → (m : Moment) (es : Kept) (pss : List KeptParts)
+    → charges_with m es pss [] ≡ charges_from m es pss
+nothing_charged free m [] pss = refl
+nothing_charged free m (e ∷ es) [] = refl
+nothing_charged free m (e ∷ es) (ps ∷ pss) =
+    let next : Moment = behind m (outcome_of m e.unit) in
+    ap (λ n. (if is_charged m e then n else 0) + charges_with next es pss []) (unit_alone free m e.unit ps)
+    ∙ ap (λ n. charge_of m e ps + n) (nothing_charged free next es pss)
 
-stored_behind : (p : Part) (kept : Store) (ps : List Part)
-    → AllByRecursion (λ y. bytes_eq p.path y ≡ false) (map (λ q. q.path) ps) → AreStored kept ps
-    → AreStored (λ path. if bytes_eq p.path path then part_trace p else kept path) ps
-stored_behind p kept [] other h = tt
-stored_behind p kept (q ∷ ps) other h = (
-  if_false (bytes_eq p.path q.path) (part_trace p) (kept q.path) other.0 ∙ h.0,
-  stored_behind p kept ps other.1 h.1,
-)
+-- ---- parts that are held
 
-each_stored : (ps : List Part) → IsDistinct bytes_eq (map (λ p. p.path) ps) → AreStored (kept_at (map stored ps)) ps
-unfolding IsDistinct
-each_stored [] distinct = tt
-each_stored (p ∷ ps) distinct = (
-  if_true (bytes_eq p.path p.path) (part_trace p) (kept_at (map stored ps) p.path)
-      ((bytes_eq-Decides p.path p.path).1 refl),
-  stored_behind p (kept_at (map stored ps)) ps distinct.0 (each_stored ps distinct.1),
-)
+-- what is kept at the path of each fits
+abbrev pub AllServed : Store → List Part → Type 0
+AllServed kept ps = AllByRecursion (λ p. serves kept p ≡ true) ps
+
+own_held : (own spare : Store) (p : Part) → serves own p ≡ true → part_charge (both_stores own spare) p ≡ 0
+own_held own spare p h = ap (λ b. if b || serves spare p then 0 else part_cost p) h
 
 no_charge : (a b : Bool) (n : ℕ) → b ≡ true → (if a || b then 0 else n) ≡ 0
 no_charge true b n h = refl
 no_charge false b n h = ap (λ c. if c then 0 else n) h
 
-one_free : AllAgree → (own kept : Store) (p : Part) → kept p.path ≡ part_trace p → HasTrace p
-    → part_charge (both_stores own kept) p ≡ 0
-one_free agree own kept p at traced =
-    no_charge (serves own p) (serves kept p) (part_cost p)
-    (ap (part_fits p.before) (at ∙ traced.1)
-    ∙ agrees_of p.before traced.0.looks (agree p.levels p.steps (alone p.tree) p.before traced.0 traced.1))
+spare_held : (own spare : Store) (p : Part) → serves spare p ≡ true → part_charge (both_stores own spare) p ≡ 0
+spare_held own spare p h = no_charge (serves own p) (serves spare p) (part_cost p) h
 
-all_free : AllAgree → (own kept : Store) (ps : List Part) → AreStored kept ps → AllByRecursion HasTrace ps
-    → charges (both_stores own kept) ps ≡ 0
-all_free agree own kept [] at traced = refl
-all_free agree own kept (p ∷ ps) at traced =
-    let sum : charges (both_stores own kept) (p ∷ ps)
-    ≡ part_charge (both_stores own kept) p + charges (both_stores own kept) ps =
-    sum_by-cons (part_charge (both_stores own kept)) p ps in
-    let one : part_charge (both_stores own kept) p ≡ 0 = one_free agree own kept p at.0 traced.0 in
-    let others : charges (both_stores own kept) ps ≡ 0 = all_free agree own kept ps at.1 traced.1 in
+all_free : (kept : Stores) (ps : List Part) → AllByRecursion (λ p. part_charge kept p ≡ 0) ps → charges kept ps ≡ 0
+all_free kept [] h = refl
+all_free kept (p ∷ ps) h =
+    let sum : charges kept (p ∷ ps) ≡ part_charge kept p + charges kept ps = sum_by-cons (part_charge kept) p ps in
+    let one : part_charge kept p ≡ 0 = h.0 in
+    let others : charges kept ps ≡ 0 = all_free kept ps h.1 in
     omega (arith, sum, one, others)
 
--- ---- a unit whose spare fits
+each_by : {P Q : Part → Type 0} (ps : List Part) → ((p : Part) → P p → Q p) → AllByRecursion P ps
+    → AllByRecursion Q ps
+each_by [] law h = tt
+each_by (p ∷ ps) law h = (law p h.0, each_by ps law h.1)
 
-abbrev pub AllDistinct : Type 0
-AllDistinct = (k c : ℕ) (path : List ℕ) (t : WideTree) (e : Before)
-    → IsDistinct bytes_eq (map (λ p. p.path) (parts k c path t e))
+own_free : (own spare : Store) (ps : List Part) → AllServed own ps → charges (both_stores own spare) ps ≡ 0
+own_free own spare ps h =
+    all_free (both_stores own spare) ps
+    (each_by {P = λ p. serves own p ≡ true} {Q = λ p. part_charge (both_stores own spare) p ≡ 0} ps
+    (own_held own spare) h)
 
-no_charge_at : (b : Bool) (n : ℕ) → n ≡ 0 → (if b then 0 else n) ≡ 0
-no_charge_at true n h = refl
-no_charge_at false n h = h
+spare_all_free : (own spare : Store) (ps : List Part) → AllServed spare ps → charges (both_stores own spare) ps ≡ 0
+spare_all_free own spare ps h =
+    all_free (both_stores own spare) ps
+    (each_by {P = λ p. serves spare p ≡ true} {Q = λ p. part_charge (both_stores own spare) p ≡ 0} ps
+    (spare_held own spare) h)
+
+-- ---- parts that are kept are served
+
+served_behind : (k : Stored) (ks : KeptParts) (ps : List Part)
+    → AllByRecursion (λ y. bytes_eq k.path y ≡ false) (map (λ q. q.path) ps) → AllServed (kept_at ks) ps
+    → AllServed (kept_at (k ∷ ks)) ps
+served_behind k ks [] other h = tt
+served_behind k ks (q ∷ ps) other h = (
+  ap (part_fits q.before) (if_false (bytes_eq k.path q.path) k.trace (kept_at ks q.path) other.0) ∙ h.0,
+  served_behind k ks ps other.1 h.1,
+)
+
+pub kept_served : (ks : KeptParts) (ps : List Part) → IsDistinct bytes_eq (map (λ p. p.path) ps)
+    → are_kept ks ps ≡ true → AllServed (kept_at ks) ps
+unfolding IsDistinct
+kept_served [] [] distinct is = tt
+kept_served [] (p ∷ ps) distinct is = cc
+kept_served (k ∷ ks) [] distinct is = cc
+kept_served (k ∷ ks) (p ∷ ps) distinct is =
+    let tests : (is_kept k p ≡ true) × (are_kept ks ps ≡ true) = both (is_kept k p) (are_kept ks ps) is in
+    let here : (bytes_eq k.path p.path ≡ true) × (part_fits p.before k.trace ≡ true) =
+    both (bytes_eq k.path p.path) (part_fits p.before k.trace) tests.0 in
+    let path : p.path ≡ k.path = sym ((bytes_eq-Decides k.path p.path).0 here.0) in (
+      ap (part_fits p.before) (if_true (bytes_eq k.path p.path) k.trace (kept_at ks p.path) here.0) ∙ here.1,
+      served_behind k ks ps
+          (subst (λ q. AllByRecursion (λ y. bytes_eq q y ≡ false) (map (λ r. r.path) ps)) path distinct.0)
+          (kept_served ks ps distinct.1 tests.1),
+    )
+
+-- ---- a unit that stays
+
+module _ (distinct : AllDistinct) (sheller : Sheller) (m : Moment) (u : DocUnit) where
+  parts_distinct : IsDistinct bytes_eq (map (λ p. p.path) (unit_parts_by sheller m u))
+  parts_distinct = distinct sheller MOST_LEVELS (allowance m) [] u.tagged.tree (get m.env)
+
+  -- where its parts are kept, or are spare, it is charged for its layers
+  own_parts_free : (ks spare : KeptParts) → are_kept ks (unit_parts_by sheller m u) ≡ true
+      → parts_charge_by sheller m u ks spare
+      ≡ layer_costs_by holds_nothing sheller MOST_LEVELS (allowance m) u.tagged.tree (get m.env)
+  own_parts_free ks spare is =
+      let none : charges (both_stores (kept_at ks) (kept_at spare)) (unit_parts_by sheller m u) ≡ 0 =
+      own_free (kept_at ks) (kept_at spare) (unit_parts_by sheller m u)
+      (kept_served ks (unit_parts_by sheller m u) parts_distinct is) in
+      omega (arith, none)
+
+  spare_parts_free : (ks spare : KeptParts) → are_kept spare (unit_parts_by sheller m u) ≡ true
+      → parts_charge_by sheller m u ks spare
+      ≡ layer_costs_by holds_nothing sheller MOST_LEVELS (allowance m) u.tagged.tree (get m.env)
+  spare_parts_free ks spare is =
+      let none : charges (both_stores (kept_at ks) (kept_at spare)) (unit_parts_by sheller m u) ≡ 0 =
+      spare_all_free (kept_at ks) (kept_at spare) (unit_parts_by sheller m u)
+      (kept_served spare (unit_parts_by sheller m u) parts_distinct is) in
+      omega (arith, none)
+
+pub staying_charged : AllDistinct → (sheller : Sheller) (m : Moment) (e : Entry) (ks : KeptParts) (s : UnitSpare)
+    → unit_stays_by sheller m e ks ≡ true → charge_by sheller m e ks s ≡ layers_charge sheller m e.unit
+staying_charged distinct sheller m e ks s is = by (has_parts e.unit) refl
+  where
+    tests : (fits m e.trace ≡ true)
+        × ((not (has_parts e.unit) || are_kept ks (unit_parts_by sheller m e.unit)) ≡ true)
+    tests = both (fits m e.trace) (not (has_parts e.unit) || are_kept ks (unit_parts_by sheller m e.unit)) is
+
+    by : (b : Bool) → has_parts e.unit ≡ b
+        → (if b || not (fits m e.trace)
+        then if b then parts_charge_by sheller m e.unit ks s.parts else whole_charge m e.unit s else 0)
+        ≡ (if b then layer_costs_by holds_nothing sheller MOST_LEVELS (allowance m) e.unit.tagged.tree (get m.env) else 0)
+    by false n = ap (λ f. if not f then whole_charge m e.unit s else 0) tests.0
+    by true n =
+        own_parts_free distinct sheller m e.unit ks s.parts
+        (ap (λ a. not a || are_kept ks (unit_parts_by sheller m e.unit)) (sym n) ∙ tests.1)
+
+pub layers_free : LayersFree → (m : Moment) (u : DocUnit) → layers_charge closed m u ≡ 0
+layers_free free m u = by (has_parts u)
+  where
+    by : (b : Bool)
+        → (if b then layer_costs_by holds_nothing closed MOST_LEVELS (allowance m) u.tagged.tree (get m.env) else 0) ≡ 0
+    by false = refl
+    by true = free MOST_LEVELS (allowance m) u.tagged.tree (get m.env)
+
+-- ---- a unit whose trace fits, and whose parts a refresh has left
 
 module _ (support : AllSupport) (allowed : AllAllowed) (agree : AllAgree) (same : AllSameStored) (traced : AllTraced)
-    (distinct : AllDistinct) (m n : Moment) (u : DocUnit) (placed : IsPlaced u) (trace : WideTrace)
-    (is : outcome_of n u ≡ Some trace) (fit : fits m (Some trace) ≡ true) where
-  tests : (agrees (get m.env) trace.looks ≡ true) × (nat_le trace.cost (allowance m) ≡ true)
-  tests = both (agrees (get m.env) trace.looks) (nat_le trace.cost (allowance m)) fit
+    (distinct : AllDistinct) (sheller : Sheller) (sound : IsSheller sheller) (m n : Moment) (u : DocUnit)
+    (placed : IsPlaced u) (trace : WideTrace) (is : outcome_of n u ≡ Some trace) (fit : fits m (Some trace) ≡ true)
+  where
+    tests : (agrees (get m.env) trace.looks ≡ true) × (nat_le trace.cost (allowance m) ≡ true)
+    tests = both (agrees (get m.env) trace.looks) (nat_le trace.cost (allowance m)) fit
 
-  comes : has_parts u ≡ true → evaluates MOST_LEVELS (allowance n) u.tagged.tree (get n.env) ≡ Some trace
-  comes nested = outcome_there u n n.env n.left (allowance n) refl refl placed nested ∙ is
+    comes : has_parts u ≡ true → evaluates MOST_LEVELS (allowance n) u.tagged.tree (get n.env) ≡ Some trace
+    comes nested = outcome_there u n n.env n.left (allowance n) refl refl placed nested ∙ is
 
-  -- the parts of the spare are those of the unit at this moment
-  spare_are : has_parts u ≡ true → fresh_parts n u ≡ map stored (unit_parts m u)
-  spare_are nested =
-      ap (λ b. if b then parts_if_done (outcome_of n u) (unit_parts n u) else []) nested
-      ∙ ap (λ o. parts_if_done o (unit_parts n u)) is
-      ∙ sym (same MOST_LEVELS (allowance n) (allowance m) [] u.tagged.tree (get n.env) (get m.env) trace (comes nested)
-      (agrees_is (get m.env) trace.looks tests.0) (leb-true trace.cost (allowance m) tests.1))
+    -- they are those of the unit at this moment
+    parts_are : has_parts u ≡ true → fresh_parts_by sheller n u ≡ map stored (unit_parts_by sheller m u)
+    parts_are nested =
+        ap (λ b. if b then parts_if_done (outcome_of n u) (unit_parts_by sheller n u) else []) nested
+        ∙ ap (λ o. parts_if_done o (unit_parts_by sheller n u)) is
+        ∙ sym (same sheller sound MOST_LEVELS (allowance n) (allowance m) [] u.tagged.tree (get n.env) (get m.env) trace
+        (comes nested) (agrees_is (get m.env) trace.looks tests.0) (leb-true trace.cost (allowance m) tests.1))
 
-  comes_here : Some trace ≡ outcome_of m u
-  comes_here =
-      fits_is m (Some trace) (tagged_of u.tagged)
-      (outcome_holds support allowed n (Some trace) (tagged_of u.tagged) (sym is)) fit
+    comes_here : Some trace ≡ outcome_of m u
+    comes_here =
+        fits_is m (Some trace) (tagged_of u.tagged)
+        (outcome_holds support allowed n (Some trace) (tagged_of u.tagged) (sym is)) fit
 
-  traced_here : has_parts u ≡ true → AllByRecursion HasTrace (unit_parts m u)
-  traced_here nested =
-      traced MOST_LEVELS (allowance m) [] u.tagged.tree (get m.env) trace
-      (outcome_there u m m.env m.left (allowance m) refl refl placed nested ∙ sym comes_here)
+    traced_here : has_parts u ≡ true → AllByRecursion HasTrace (unit_parts_by sheller m u)
+    traced_here nested =
+        traced sheller sound MOST_LEVELS (allowance m) [] u.tagged.tree (get m.env) trace
+        (outcome_there u m m.env m.left (allowance m) refl refl placed nested ∙ sym comes_here)
 
-  unit_free : (ps : KeptParts) → unit_charge_with m u ps (record { trace = Some trace; parts = fresh_parts n u }) ≡ 0
-  unit_free ps = by (has_parts u) refl
-    where
-      by : (b : Bool) → has_parts u ≡ b
-          → (if b then charges (stores_with ps (fresh_parts n u)) (unit_parts m u)
-          else if fits m (Some trace) then 0 else charge m (outcome_of m u)) ≡ 0
-      by false other = ap (λ b. if b then 0 else charge m (outcome_of m u)) fit
-      by true nested =
-          ap (λ qs. charges (stores_with ps qs) (unit_parts m u)) (spare_are nested)
-          ∙ all_free agree (kept_at ps) (kept_at (map stored (unit_parts m u))) (unit_parts m u)
-          (each_stored (unit_parts m u) (distinct MOST_LEVELS (allowance m) [] u.tagged.tree (get m.env)))
-          (traced_here nested)
+    parts_kept : has_parts u ≡ true → are_kept (fresh_parts_by sheller n u) (unit_parts_by sheller m u) ≡ true
+    parts_kept nested =
+        ap (λ ks. are_kept ks (unit_parts_by sheller m u)) (parts_are nested)
+        ∙ stored_kept agree (unit_parts_by sheller m u) (traced_here nested)
 
-pub spare_free : AllSupport → AllAllowed → AllAgree → AllSameStored → AllTraced → AllDistinct → (m n : Moment)
-    (e : Entry) (ps : KeptParts) (trace : WideTrace) → IsPlaced e.unit → outcome_of n e.unit ≡ Some trace
-    → fits m (Some trace) ≡ true
+    unit_stays : (o : Option WideTrace) → o ≡ Some trace
+        → unit_stays_by sheller m (record { unit = u; trace = o }) (fresh_parts_by sheller n u) ≡ true
+    unit_stays o at =
+        ap (λ f. f && (not (has_parts u) || are_kept (fresh_parts_by sheller n u) (unit_parts_by sheller m u)))
+        (ap (fits m) at ∙ fit) ∙ by (has_parts u) refl
+      where
+        by : (b : Bool) → has_parts u ≡ b
+            → (not b || are_kept (fresh_parts_by sheller n u) (unit_parts_by sheller m u)) ≡ true
+        by false nested = refl
+        by true nested = parts_kept nested
+
+    spare_charged : (o : Option WideTrace) (ps : KeptParts)
+        → charge_by sheller m (record { unit = u; trace = o }) ps
+        (record { trace = Some trace; parts = fresh_parts_by sheller n u })
+        ≡ layers_charge sheller m u
+    spare_charged o ps = by (has_parts u) refl
+      where
+        unused : (b : Bool) → (if b then (if fits m (Some trace) then 0 else charge m (outcome_of m u)) else 0) ≡ 0
+        unused true = ap (λ f. if f then 0 else charge m (outcome_of m u)) fit
+        unused false = refl
+
+        by : (b : Bool) → has_parts u ≡ b
+            → (if b || not (fits m o)
+            then if b then parts_charge_by sheller m u ps (fresh_parts_by sheller n u)
+            else if fits m (Some trace) then 0 else charge m (outcome_of m u) else 0)
+            ≡ (if b then layer_costs_by holds_nothing sheller MOST_LEVELS (allowance m) u.tagged.tree (get m.env) else 0)
+        by false nested = unused (not (fits m o))
+        by true nested = spare_parts_free distinct sheller m u ps (fresh_parts_by sheller n u) (parts_kept nested)
+
+pub fresh_stays : AllSupport → AllAllowed → AllAgree → AllSameStored → AllTraced → AllDistinct → (sheller : Sheller)
+    → IsSheller sheller → (m n : Moment) (e : Entry) (trace : WideTrace) → IsPlaced e.unit → e.trace ≡ Some trace
+    → outcome_of n e.unit ≡ Some trace → fits m (Some trace) ≡ true
+    → unit_stays_by sheller m e (fresh_parts_by sheller n e.unit) ≡ true
+fresh_stays support allowed agree same traced distinct sheller sound m n e trace placed at is fit =
+    unit_stays support allowed agree same traced distinct sheller sound m n e.unit placed trace is fit e.trace at
+
+pub spare_layers : AllSupport → AllAllowed → AllAgree → AllSameStored → AllTraced → AllDistinct → (sheller : Sheller)
+    → IsSheller sheller → (m n : Moment) (e : Entry) (ps : KeptParts) (trace : WideTrace) → IsPlaced e.unit
+    → outcome_of n e.unit ≡ Some trace → fits m (Some trace) ≡ true
+    → charge_by sheller m e ps (record { trace = Some trace; parts = fresh_parts_by sheller n e.unit })
+    ≡ layers_charge sheller m e.unit
+spare_layers support allowed agree same traced distinct sheller sound m n e ps trace placed is fit =
+    spare_charged support allowed agree same traced distinct sheller sound m n e.unit placed trace is fit e.trace ps
+
+pub spare_free : AllSupport → AllAllowed → AllAgree → AllSameStored → AllTraced → AllDistinct → LayersFree
+    → IsSheller closed → (m n : Moment) (e : Entry) (ps : KeptParts) (trace : WideTrace) → IsPlaced e.unit
+    → outcome_of n e.unit ≡ Some trace → fits m (Some trace) ≡ true
     → charge_with m e ps (record { trace = Some trace; parts = fresh_parts n e.unit }) ≡ 0
-spare_free support allowed agree same traced distinct m n e ps trace placed is fit =
-    no_charge_at (fits m e.trace)
-    (unit_charge_with m e.unit ps (record { trace = Some trace; parts = fresh_parts n e.unit }))
-    (unit_free support allowed agree same traced distinct m n e.unit placed trace is fit ps)
+spare_free support allowed agree same traced distinct free shut m n e ps trace placed is fit =
+    spare_layers support allowed agree same traced distinct closed shut m n e ps trace placed is fit
+    ∙ layers_free free m e.unit

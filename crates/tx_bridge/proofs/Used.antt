@@ -68,11 +68,11 @@ charge_fits allowed m (Some trace) t e =
     let cost : trace.cost ≤ allowance m = (allowed MOST_LEVELS (allowance m) t (get m.env) trace (sym e)).0 in
     omega (arith, cost)
 
-pub sound_with : AllSupport → AllAllowed → (m : Moment) (u : DocUnit) (o : Outcome) (ps : List DonePart) (flag : Bool)
-    (from : Option ℕ) → wide_outcome o ≡ outcome (tagged_of u.tagged) m → NamesOnce o → IsPlaced u
-    → PartsHold u (wide_outcome o) ps
-    → IsSound (record { unit = u; kept = o; parts = ps; renewed = flag; source = from })
-sound_with support allowed m u o ps flag from e once placed hold = record {
+pub sound_with : AllSupport → AllAllowed → (m : Moment) (u : DocUnit) (o : Outcome) (ps : List DonePart)
+    (shelled flag : Bool) (from : Option ℕ) → wide_outcome o ≡ outcome (tagged_of u.tagged) m → NamesOnce o
+    → IsPlaced u → PartsHold shelled u (wide_outcome o) ps
+    → IsSound (record { unit = u; kept = o; parts = ps; shelled = shelled; renewed = flag; source = from })
+sound_with support allowed m u o ps shelled flag from e once placed hold = record {
   holds = outcome_holds support allowed m (wide_outcome o) (tagged_of u.tagged) e;
   once = once;
   placed = placed;

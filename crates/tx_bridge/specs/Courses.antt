@@ -79,7 +79,14 @@ abbrev pub arrived_parts : List PartMove → ℕ → List DonePart
 arrived_parts ms j = filter_map (part_in_unit j) ms
 
 abbrev pub joined_by : List DonePart → Bridge → Bridge
-joined_by ps b = record { unit = b.unit; kept = b.kept; parts = b.parts ++ ps; renewed = b.renewed; source = b.source }
+joined_by ps b = record {
+  unit = b.unit;
+  kept = b.kept;
+  parts = b.parts ++ ps;
+  shelled = b.shelled;
+  renewed = b.renewed;
+  source = b.source;
+}
 
 -- the entries, from number j on, with the parts that have moved to them
 abbrev pub with_arrived : List PartMove → ℕ → List Bridge → List Bridge

@@ -1,5 +1,6 @@
 -- What is true of what is kept of parts.
-use Rattle.std.specs.Prelude.{◌≡◌, ◌≤◌, ℕ, Bool, false, if◌then◌else◌, List, [], ◌∷◌, map, Option, Some, None}
+use Rattle.std.specs.Prelude.{◌≡◌, ◌≤◌, ℕ, Bool, false, not, ◌&&◌, if◌then◌else◌, List, [], ◌∷◌, map}
+use Rattle.std.specs.Prelude.{Option, Some, None, true}
 use Rattle.std.specs.List.{AllByRecursion, IsDistinct}
 use Rattle.std.specs.Str.{bytes_eq}
 use Rattle.tx_tree.specs.WideTree.{WideTree}
@@ -40,18 +41,29 @@ pub record HoldsPart (t : WideTree) (p : DonePart) : Type 0 where
   pub supports : Supports (wide_trace p.trace) (alone there)
   pub tidy : IsTidy p
 
--- Where the unit's trace is kept, these are its parts in every environment that agrees with the trace's looks, whatever
--- the steps that suffice for it.
+-- Where the unit's trace is kept, these are its parts, if nothing has a shell, in every environment that agrees with
+-- the trace's looks, whatever the steps that suffice for it.
 abbrev pub AreItsParts : DocUnit → KeptParts → Option WideTrace → Type 0
 AreItsParts u ks None = Unit {0}
 AreItsParts u ks (Some trace) = (n : ℕ) (e : Before) → Agrees e trace.looks → trace.cost ≤ n
     → (if has_parts u then map stored (parts MOST_LEVELS n [] u.tagged.tree e) else []) ≡ ks
 
--- what is true of the parts that are kept of a unit, of which this trace is kept
-pub record PartsHold (u : DocUnit) (o : Option WideTrace) (ps : List DonePart) : Type 0 where
+-- What is true of the parts that are kept of a unit, of which this trace is kept. If they are `shelled`, they may be
+-- those of an opener that opens something.
+pub record PartsHold (shelled : Bool) (u : DocUnit) (o : Option WideTrace) (ps : List DonePart) : Type 0 where
   pub hold : AllByRecursion (HoldsPart u.tagged.tree) ps
   pub distinct : IsDistinct bytes_eq (paths_of ps)
-  pub all : AreItsParts u (kept_parts ps) o
+  pub all : has_parts u && shelled ≡ false → AreItsParts u (kept_parts ps) o
+
+-- the same parts, in order, and none of the second ones is told as evaluated
+abbrev pub is_same_part : DonePart → DonePart → Bool
+is_same_part p q = bytes_eq p.path q.path && not q.renewed
+
+abbrev pub are_same_parts : List DonePart → List DonePart → Bool
+are_same_parts [] [] = true
+are_same_parts [] (q ∷ qs) = false
+are_same_parts (p ∷ ps) [] = false
+are_same_parts (p ∷ ps) (q ∷ qs) = is_same_part p q && are_same_parts ps qs
 
 -- ---- of all units
 

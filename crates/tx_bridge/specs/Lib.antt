@@ -18,6 +18,7 @@ pub mod Courses
 pub mod UnitLists
 pub mod Bridged
 pub mod Spares
+pub mod Charges
 pub mod Lent
 pub mod Names
 pub mod KeptInDocument

@@ -6,10 +6,13 @@ use Rattle.tx_env.specs.Pairs.{Name}
 use Rattle.tx_mod.specs.declared.mods.Mod.{Mod}
 use Rattle.tx_units.specs.declared.kinds.Unit.{Unit as DocUnit}
 use Rattle.tx_view_form.specs.Outcomes.{beginning}
+use Rattle.tx_parts.specs.Opening.{Sheller}
 use Rattle.tx_bridge.specs.Moments.{beginning_with}
 use Rattle.tx_bridge.specs.Entries.{Kept, units_of, nothing_kept, fresh_from}
-use Rattle.tx_bridge.specs.PartsKept.{KeptParts, fresh_parts_from, part_flags_from, charges_from}
-use Rattle.tx_bridge.specs.Spares.{Spares, charges_with}
+use Rattle.tx_bridge.specs.PartsKept.{KeptParts, fresh_parts_from, part_flags_from}
+use Rattle.tx_bridge.specs.PartsKept.{fresh_parts_by_from, part_flags_by_from}
+use Rattle.tx_bridge.specs.Spares.{Spares}
+use Rattle.tx_bridge.specs.Charges.{charges_from, charges_with, charges_by}
 use Rattle.tx_bridge.specs.declared.course.Course.{Course}
 use Rattle.tx_bridge.specs.Carrying.{carried, sources, mods_of, unit_places_after}
 use Rattle.tx_bridge.specs.CarryingParts.{parts_but}
@@ -37,7 +40,7 @@ FreshParts kept = fresh_parts_from beginning (units_of kept)
 unfoldable pub PartFlags : Kept → List KeptParts → List (List Bool)
 PartFlags kept parts = part_flags_from beginning kept parts
 
--- the charges of the units that are reached
+-- the charges of all units
 unfoldable pub Charge : Kept → List KeptParts → ℕ
 Charge kept parts = charges_from beginning kept parts
 
@@ -55,6 +58,18 @@ PartFlagsFrom start kept parts = part_flags_from (beginning_with start) kept par
 -- the charges, where so much is spare of the units
 unfoldable pub ChargeFrom : List (Name × WideTree) → Kept → List KeptParts → Spares → ℕ
 ChargeFrom start kept parts spares = charges_with (beginning_with start) kept parts spares
+
+-- ---- the same, where trees have these shells
+
+unfoldable pub FreshPartsBy : List (Name × WideTree) → Sheller → Kept → List KeptParts
+FreshPartsBy start sheller kept = fresh_parts_by_from sheller (beginning_with start) (units_of kept)
+
+unfoldable pub PartFlagsBy : List (Name × WideTree) → Sheller → Kept → List KeptParts → List (List Bool)
+PartFlagsBy start sheller kept parts = part_flags_by_from sheller (beginning_with start) kept parts
+
+-- the charges, with those of layers
+unfoldable pub ChargeBy : List (Name × WideTree) → Sheller → Kept → List KeptParts → Spares → ℕ
+ChargeBy start sheller kept parts spares = charges_by sheller (beginning_with start) kept parts spares
 
 -- ---- through an edit
 

@@ -1,16 +1,16 @@
 -- What is kept of the parts of units.
-use Rattle.std.specs.Prelude.{ℕ, ◌+◌, Bool, not, is_some, if◌then◌else◌, List, [], ◌∷◌, map}
+use Rattle.std.specs.Prelude.{ℕ, Bool, not, is_some, if◌then◌else◌, List, [], ◌∷◌, map}
 use Rattle.std.specs.Prelude.{◌≡◌, false, Option, Some, None, slice_get}
 use Rattle.std.specs.FinMap.{get}
 use Rattle.std.specs.Str.{bytes_eq}
 use Rattle.tx_exec_form.specs.declared.TheConstants.{MOST_LEVELS}
 use Rattle.tx_exec_form.specs.Evaluated.{WideTrace}
-use Rattle.tx_parts.specs.Parts.{Part, parts, Stored, stored}
-use Rattle.tx_walk.specs.Held.{Store, serves, only, charges}
+use Rattle.tx_parts.specs.Opening.{Sheller, closed}
+use Rattle.tx_parts.specs.Parts.{Part, parts_by, Stored, stored}
+use Rattle.tx_walk.specs.Held.{Store, serves}
 use Rattle.tx_units.specs.declared.kinds.Unit.{Unit as DocUnit}
-use Rattle.tx_view_form.specs.Outcomes.{Moment, allowance, charge, behind}
-use Rattle.tx_bridge.specs.Entries.{Entry, Kept, outcome_of}
-use Rattle.tx_bridge.specs.Reached.{fits}
+use Rattle.tx_view_form.specs.Outcomes.{Moment, allowance, behind}
+use Rattle.tx_bridge.specs.Entries.{Kept, outcome_of}
 
 -- ---- what is kept of the parts of a unit
 
@@ -28,9 +28,13 @@ kept_at (p ∷ ps) path = if bytes_eq p.path path then p.trace else kept_at ps p
 abbrev pub has_parts : DocUnit → Bool
 has_parts u = is_some u.path
 
--- the parts of the unit's tree, where it is evaluated at this moment
+-- the parts of the unit's tree, where it is evaluated at this moment, and trees have these shells
+abbrev pub unit_parts_by : Sheller → Moment → DocUnit → List Part
+unit_parts_by sheller m u = parts_by sheller MOST_LEVELS (allowance m) [] u.tagged.tree (get m.env)
+
+-- where nothing has a shell
 abbrev pub unit_parts : Moment → DocUnit → List Part
-unit_parts m u = parts MOST_LEVELS (allowance m) [] u.tagged.tree (get m.env)
+unit_parts m u = unit_parts_by closed m u
 
 -- ---- what evaluating from nothing leaves
 
@@ -40,13 +44,22 @@ parts_if_done None ps = []
 parts_if_done (Some trace) ps = map stored ps
 
 -- what is to be kept of the parts of the unit, which is evaluated at this moment
-abbrev pub fresh_parts : Moment → DocUnit → KeptParts
-fresh_parts m u = if has_parts u then parts_if_done (outcome_of m u) (unit_parts m u) else []
+abbrev pub fresh_parts_by : Sheller → Moment → DocUnit → KeptParts
+fresh_parts_by sheller m u =
+    if has_parts u then parts_if_done (outcome_of m u) (unit_parts_by sheller m u) else []
 
 -- of each unit, the first at this moment and each other one behind those before it
+abbrev pub fresh_parts_by_from : Sheller → Moment → List DocUnit → List KeptParts
+fresh_parts_by_from sheller m [] = []
+fresh_parts_by_from sheller m (u ∷ us) =
+    fresh_parts_by sheller m u ∷ fresh_parts_by_from sheller (behind m (outcome_of m u)) us
+
+-- where nothing has a shell
+abbrev pub fresh_parts : Moment → DocUnit → KeptParts
+fresh_parts m u = fresh_parts_by closed m u
+
 abbrev pub fresh_parts_from : Moment → List DocUnit → List KeptParts
-fresh_parts_from m [] = []
-fresh_parts_from m (u ∷ us) = fresh_parts m u ∷ fresh_parts_from (behind m (outcome_of m u)) us
+fresh_parts_from m us = fresh_parts_by_from closed m us
 
 -- ---- which parts are evaluated anew
 
@@ -56,35 +69,26 @@ flags_if_done None kept ps = []
 flags_if_done (Some trace) kept ps = map (λ p. not (serves kept p)) ps
 
 -- so of the parts of the unit, which is evaluated at this moment, where these are kept
-abbrev pub part_flags : Moment → DocUnit → KeptParts → List Bool
-part_flags m u ks = if has_parts u then flags_if_done (outcome_of m u) (kept_at ks) (unit_parts m u) else []
+abbrev pub part_flags_by : Sheller → Moment → DocUnit → KeptParts → List Bool
+part_flags_by sheller m u ks =
+    if has_parts u then flags_if_done (outcome_of m u) (kept_at ks) (unit_parts_by sheller m u) else []
 
 -- of each unit, the first at this moment and each other one behind those before it
+abbrev pub part_flags_by_from : Sheller → Moment → Kept → List KeptParts → List (List Bool)
+part_flags_by_from sheller m [] pss = []
+part_flags_by_from sheller m (e ∷ es) [] = []
+part_flags_by_from sheller m (e ∷ es) (ks ∷ pss) =
+    part_flags_by sheller m e.unit ks ∷ part_flags_by_from sheller (behind m (outcome_of m e.unit)) es pss
+
+-- where nothing has a shell
+abbrev pub part_flags : Moment → DocUnit → KeptParts → List Bool
+part_flags m u ks = part_flags_by closed m u ks
+
 abbrev pub part_flags_from : Moment → Kept → List KeptParts → List (List Bool)
-part_flags_from m [] pss = []
-part_flags_from m (e ∷ es) [] = []
-part_flags_from m (e ∷ es) (ks ∷ pss) =
-    part_flags m e.unit ks ∷ part_flags_from (behind m (outcome_of m e.unit)) es pss
+part_flags_from m es pss = part_flags_by_from closed m es pss
 
 -- What is kept now of a part whose flag is false is what was kept at its path.
 abbrev pub PartsStay : List KeptParts → List KeptParts → List (List Bool) → Type 0
 PartsStay olds news flags = (i k : ℕ) (old new : KeptParts) (fs : List Bool) (s : Stored) → slice_get olds i ≡ Some old
     → slice_get news i ≡ Some new → slice_get flags i ≡ Some fs → slice_get new k ≡ Some s
     → slice_get fs k ≡ Some false → kept_at old s.path ≡ s.trace
-
--- ---- what evaluating again costs
-
--- what the unit is charged where it is evaluated: a paragraph of the body the costs of its parts that aren't held
-abbrev pub unit_charge : Moment → DocUnit → KeptParts → ℕ
-unit_charge m u ps =
-    if has_parts u then charges (only (kept_at ps)) (unit_parts m u) else charge m (outcome_of m u)
-
--- what it is charged, if it is reached
-abbrev pub charge_of : Moment → Entry → KeptParts → ℕ
-charge_of m e ps = if fits m e.trace then 0 else unit_charge m e.unit ps
-
--- the charges of the units that are reached
-abbrev pub charges_from : Moment → Kept → List KeptParts → ℕ
-charges_from m [] pss = 0
-charges_from m (e ∷ es) [] = 0
-charges_from m (e ∷ es) (ps ∷ pss) = charge_of m e ps + charges_from (behind m (outcome_of m e.unit)) es pss

@@ -1,17 +1,52 @@
--- Of which units what is kept can't be used. Of the parts of such a paragraph some may be held all the same.
-use Rattle.std.specs.Prelude.{nat_le, Bool, false, not, ◌&&◌, List, [], ◌∷◌, Option, Some, None}
+-- Which units stay. Of the parts of a paragraph that doesn't some may be held all the same.
+use Rattle.std.specs.Prelude.{nat_le, Bool, true, false, not, ◌&&◌, ◌||◌, List, [], ◌∷◌, drop, Option, Some, None}
 use Rattle.std.specs.FinMap.{get}
+use Rattle.std.specs.Str.{bytes_eq}
 use Rattle.tx_exec_form.specs.Evaluated.{WideTrace}
 use Rattle.tx_view_form.specs.Outcomes.{Moment, allowance, behind}
-use Rattle.tx_walk.specs.Held.{agrees}
-use Rattle.tx_bridge.specs.Entries.{Kept, outcome_of}
+use Rattle.tx_parts.specs.Opening.{Sheller, closed}
+use Rattle.tx_parts.specs.Parts.{Part, Stored}
+use Rattle.tx_walk.specs.Held.{agrees, fits as part_fits}
+use Rattle.tx_bridge.specs.Entries.{Entry, Kept, outcome_of}
+use Rattle.tx_bridge.specs.PartsKept.{KeptParts, has_parts, unit_parts_by}
 
 -- what is kept can be used at the moment: the environment agrees with the looks, and the cost is allowed
 abbrev pub fits : Moment → Option WideTrace → Bool
 fits m None = false
 fits m (Some trace) = agrees (get m.env) trace.looks && nat_le trace.cost (allowance m)
 
--- a unit is reached where what is kept of it can't be used
-abbrev pub reached_from : Moment → Kept → List Bool
-reached_from m [] = []
-reached_from m (e ∷ es) = not (fits m e.trace) ∷ reached_from (behind m (outcome_of m e.unit)) es
+-- this part is kept, and what is kept of it fits what names have before it
+abbrev pub is_kept : Stored → Part → Bool
+is_kept k p = bytes_eq k.path p.path && part_fits p.before k.trace
+
+-- just these parts are kept, in order, and so it is of each
+abbrev pub are_kept : KeptParts → List Part → Bool
+are_kept [] [] = true
+are_kept [] (p ∷ ps) = false
+are_kept (k ∷ ks) [] = false
+are_kept (k ∷ ks) (p ∷ ps) = is_kept k p && are_kept ks ps
+
+-- Where trees have these shells, a unit stays: what is kept of it can be used, and if it has parts, these are kept. The
+-- parts may have been other ones where other trees had shells.
+abbrev pub unit_stays_by : Sheller → Moment → Entry → KeptParts → Bool
+unit_stays_by sheller m e ks =
+    fits m e.trace && (not (has_parts e.unit) || are_kept ks (unit_parts_by sheller m e.unit))
+
+-- what is kept of the parts of the first unit, and nothing past the end of the list
+abbrev pub first_parts : List KeptParts → KeptParts
+first_parts [] = []
+first_parts (ks ∷ pss) = ks
+
+-- a unit is reached where it doesn't stay
+abbrev pub reached_by_from : Sheller → Moment → Kept → List KeptParts → List Bool
+reached_by_from sheller m [] pss = []
+reached_by_from sheller m (e ∷ es) pss =
+    not (unit_stays_by sheller m e (first_parts pss))
+    ∷ reached_by_from sheller (behind m (outcome_of m e.unit)) es (drop 1 pss)
+
+-- where nothing has a shell
+abbrev pub unit_stays : Moment → Entry → KeptParts → Bool
+unit_stays m e ks = unit_stays_by closed m e ks
+
+abbrev pub reached_from : Moment → Kept → List KeptParts → List Bool
+reached_from m es pss = reached_by_from closed m es pss

@@ -20,7 +20,14 @@ abbrev pub given_from : Option (List ℕ) → ℕ → Bridge → ℕ → List Br
 given_from place i b j [] = []
 given_from place i b j (w ∷ ws) =
     (if stays place i b.unit j w.unit
-    then record { unit = w.unit; kept = b.kept; parts = b.parts; renewed = w.renewed; source = Some i }
+    then record {
+      unit = w.unit;
+      kept = b.kept;
+      parts = b.parts;
+      shelled = b.shelled;
+      renewed = w.renewed;
+      source = Some i;
+    }
     else w)
     ∷ given_from place i b (j + 1) ws
 
@@ -32,7 +39,7 @@ given_all i (place ∷ places) (b ∷ bs) new = given_all (i + 1) places bs (giv
 
 -- the unit with nothing kept
 abbrev pub fresh_bridge : DocUnit → Bridge
-fresh_bridge u = record { unit = u; kept = Over; parts = []; renewed = false; source = None }
+fresh_bridge u = record { unit = u; kept = Over; parts = []; shelled = false; renewed = false; source = None }
 
 abbrev pub paths_in : List Bridge → List (Option (List ℕ))
 paths_in bs = map (λ b. b.unit.path) bs

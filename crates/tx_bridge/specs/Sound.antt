@@ -67,7 +67,14 @@ sources_by (InPlace i) bs = numbers_but i 0 (length bs)
 -- the entry, where its unit has this tree, of which these parts are kept alone
 abbrev pub changed_bridge : WideTree → List DonePart → Bridge → Bridge
 changed_bridge t ps b =
-    record { unit = unit_with t b.unit; kept = Over; parts = ps; renewed = b.renewed; source = b.source }
+    record {
+      unit = unit_with t b.unit;
+      kept = Over;
+      parts = ps;
+      shelled = b.shelled;
+      renewed = b.renewed;
+      source = b.source;
+    }
 
 -- the entries, of which that of number i is so
 abbrev pub changed_in : ℕ → WideTree → List DonePart → List Bridge → List Bridge
@@ -79,7 +86,7 @@ pub record IsSound (b : Bridge) : Type 0 where
   pub holds : Holds (wide_outcome b.kept) (tagged_of b.unit.tagged)
   pub once : NamesOnce b.kept
   pub placed : IsPlaced b.unit
-  pub parts : PartsHold b.unit (wide_outcome b.kept) b.parts
+  pub parts : PartsHold b.shelled b.unit (wide_outcome b.kept) b.parts
 
 -- Each entry is sound, the units are such as documents have, and where the flag is set, all settle in themselves.
 -- Strays hold, and stand in no unit.

@@ -1,19 +1,21 @@
 // A unit with what is kept of it.
 ghost use Rattle.std.specs.Prelude.{◌≡◌, ◌+◌, ◌≤◌, ◌⊎◌, [], None, Some, false, true, not, IfOk, OnOk, OnErr, IsTrue};
-ghost use Rattle.std.specs.Prelude.{MatchOption, IfSome, option_copied};
+ghost use Rattle.std.specs.Prelude.{MatchOption, IfSome, option_copied, ◌&&◌, ◌||◌};
 ghost use Rattle.tx_exec.specs.Outcomes.{wide_outcome, NamesOnce};
 ghost use Rattle.tx_view_form.specs.Outcomes.{behind, env_behind};
 ghost use Rattle.tx_bridge.specs.Entries.{outcome_of};
 ghost use Rattle.tx_bridge.specs.Reached.{fits};
-ghost use Rattle.tx_bridge.specs.PartsKept.{has_parts, fresh_parts, part_flags};
-ghost use Rattle.tx_bridge.specs.Spares.{unit_charge_with, charge_with};
+ghost use Rattle.tx_parts.specs.Opening.{opens_nothing, shells_by};
+ghost use Rattle.tx_bridge.specs.Reached.{unit_stays_by};
+ghost use Rattle.tx_bridge.specs.PartsKept.{has_parts, fresh_parts_by, part_flags_by};
+ghost use Rattle.tx_bridge.specs.Charges.{whole_charge, unit_charge_by, charge_by};
 ghost use Rattle.tx_bridge.specs.Lent.{spare_of, spare_parts, IsSpareOf, IsUsable};
 ghost use Rattle.tx_bridge.specs.HeldParts.{PartsHold, kept_parts, flags_of_parts, unmarked};
 ghost use Rattle.tx_bridge.specs.Settled.{AgreesWith, IsSilent};
 ghost use Rattle.tx_bridge.specs.Sound.{IsSound, entry_of, changed_bridge};
 ghost use Rattle.tx_bridge.specs.Others.{put_from};
 
-use crate::fitting::{fits, is_silent};
+use crate::fitting::{fits, is_silent, stays_kept};
 use crate::moments::{Evaluated, Moment};
 use crate::unit_parts::{UnitParts, has_parts};
 use std::alloc::Global;
@@ -22,9 +24,10 @@ use std::sync::ledger::Ledger;
 use tx_base::{Memory, Steps};
 use tx_exec::Outcome;
 use tx_exec_form::trace_laws;
+use tx_parts::{opened_cost_law, opened_fitting_law, opened_standing_law, opener_law};
 use tx_tree::Tree;
 use tx_units::Unit;
-use tx_walk::{Part, charges_law, share_trace};
+use tx_walk::{Opener, Part, share_trace};
 
 // How it is known which unit each one was before the last edit.
 #[derive(Clone, Copy, Drop)]
@@ -35,13 +38,15 @@ pub(crate) enum Way {
     InPlace(usize),
 }
 
-// A unit, the trace that is kept of it, or `Over` where nothing is kept, what is kept of its parts, whether it was
-// reached when the last refresh began, and which unit it was before the last edit that wasn't carried in place.
+// A unit, the trace that is kept of it, or `Over` where nothing is kept, what is kept of its parts, whether these may
+// be those of an opener that opens something, whether the unit was reached when the last refresh began, and which unit
+// it was before the last edit that wasn't carried in place.
 #[derive(Drop)]
 pub(crate) struct Bridge {
     pub(crate) unit: Unit,
     pub(crate) kept: Outcome,
     pub(crate) parts: UnitParts,
+    pub(crate) shelled: bool,
     pub(crate) renewed: bool,
     pub(crate) source: Option<usize>,
 }
@@ -69,13 +74,20 @@ fn lent_parts<'a>(spare: Option<&'a Bridge>) -> &'a [Part]
 impl Bridge {
     // The unit with nothing kept.
     pub(crate) fn new(alloc: Global, unit: Unit) -> Bridge
-        ensures { result
-            ≡ record { unit = unit; kept = Outcome.Over; parts = []; renewed = false; source = None } }
+        ensures { result ≡ record {
+          unit = unit;
+          kept = Outcome.Over;
+          parts = [];
+          shelled = false;
+          renewed = false;
+          source = None;
+        } }
     {
         Bridge {
             unit,
             kept: Outcome::Over,
             parts: UnitParts::none(alloc),
+            shelled: false,
             renewed: false,
             source: None,
         }
@@ -100,12 +112,14 @@ impl Bridge {
           unit = self.old.unit;
           kept = old.old.kept;
           parts = old.old.parts;
+          shelled = old.old.shelled;
           renewed = self.old.renewed;
           source = Some i;
         } }
     {
         self.kept = mem::replace(&mut old.kept, Outcome::Over);
         mem::swap(&mut self.parts, &mut old.parts);
+        self.shelled = old.shelled;
         self.source = Some(i);
     }
 
@@ -116,6 +130,7 @@ impl Bridge {
           unit = self.old.unit;
           kept = self.old.kept;
           parts = unmarked self.old.parts;
+          shelled = self.old.shelled;
           renewed = false;
           source = self.old.source;
         } }
@@ -158,8 +173,8 @@ impl Bridge {
         ensures exact { IfOk result (λ e. wide_outcome e.outcome ≡ outcome_of moment.old self.now.unit) }
         ensures once { IfOk result (λ e. NamesOnce e.outcome) }
         ensures parts { IfOk result (λ e. e.parts ≡ []) }
-        ensures charge { IfOk result (λ e. e.charge ≡ unit_charge_with moment.old self.now.unit
-            (kept_parts self.now.parts) (spare_of (option_copied spare.entry))) }
+        ensures charge { IfOk result (λ e. e.charge
+            ≡ whole_charge moment.old self.now.unit (spare_of (option_copied spare.entry))) }
         ensures counted { IfOk result (λ e. steps.new ≡ steps.old + e.charge) }
         ensures moment { moment.new ≡ moment.old }
     {
@@ -180,112 +195,156 @@ impl Bridge {
     }
 
     // What the unit comes to at the moment, which stays. A paragraph of the body is evaluated by its parts.
-    fn evaluated<L: Ledger>(
+    fn evaluated<O: Opener, L: Ledger>(
         &self,
         alloc: Global,
         moment: &mut Moment,
+        opener: &O,
+        shelled: bool,
         spare: Option<&Bridge>,
         steps: &mut Steps<L>,
     ) -> Result<Evaluated, Memory>
         requires sound { IsSound self.now }
         requires spare { IfSome (option_copied spare) (IsSpareOf self.now.unit) }
+        requires shut { shelled ≡ false → O.opens opener.now ≡ opens_nothing }
         ensures exact { IfOk result (λ e. wide_outcome e.outcome ≡ outcome_of moment.old self.now.unit) }
         ensures once { IfOk result (λ e. NamesOnce e.outcome) }
-        ensures parts { IfOk result (λ e. kept_parts e.parts ≡ fresh_parts moment.old self.now.unit) }
+        ensures parts { IfOk result (λ e. kept_parts e.parts
+            ≡ fresh_parts_by (shells_by (O.opens opener.now)) moment.old self.now.unit) }
         ensures flags { IfOk result (λ e. flags_of_parts e.parts
-            ≡ part_flags moment.old self.now.unit (kept_parts self.now.parts)) }
-        ensures hold { IfOk result (λ e. PartsHold self.now.unit (wide_outcome e.outcome) e.parts) }
-        ensures charge { IfOk result (λ e. e.charge ≡ unit_charge_with moment.old self.now.unit
+            ≡ part_flags_by (shells_by (O.opens opener.now)) moment.old self.now.unit (kept_parts self.now.parts)) }
+        ensures hold { IfOk result (λ e. PartsHold shelled self.now.unit (wide_outcome e.outcome) e.parts) }
+        ensures charge { IfOk result (λ e. e.charge
+            ≡ unit_charge_by (shells_by (O.opens opener.now)) moment.old self.now.unit
             (kept_parts self.now.parts) (spare_of (option_copied spare.entry))) }
         ensures counted { IfOk result (λ e. steps.new ≡ steps.old + e.charge) }
         ensures moment { moment.new ≡ moment.old }
     {
         if has_parts(&self.unit) {
             let lent = lent_parts(spare);
-            return moment.by_parts(alloc, &self.unit, self.parts.all(), lent, steps);
+            let kept = self.parts.all();
+            return moment.by_parts(alloc, &self.unit, opener, shelled, kept, lent, steps);
         }
         self.evaluated_whole(alloc, moment, spare, steps)
     }
 
-    // Keeps what the unit comes to at the moment, which stays, and its parts. Answers the charge.
-    fn renew<L: Ledger>(
+    // Keeps what the unit comes to at the moment, which stays, and its parts. It was reached where what was kept can't
+    // be used, or its parts aren't those that were kept. Answers the charge.
+    fn renew<O: Opener, L: Ledger>(
         &mut self,
         alloc: Global,
         moment: &mut Moment,
+        used: bool,
+        opener: &O,
+        shelled: bool,
         spare: Option<&Bridge>,
         steps: &mut Steps<L>,
     ) -> Result<u64, Memory>
         requires sound { IsSound self.old }
+        requires used { used ≡ fits moment.old (wide_outcome self.old.kept) }
+        requires bare { has_parts self.old.unit ≡ false → used ≡ false }
         requires spare { IfSome (option_copied spare) (IsSpareOf self.old.unit) }
+        requires shut { shelled ≡ false → O.opens opener.now ≡ opens_nothing }
         ensures unit { self.new.unit ≡ self.old.unit }
         ensures source { self.new.source ≡ self.old.source }
         ensures fresh { OnOk result (wide_outcome self.new.kept ≡ outcome_of moment.old self.old.unit) }
-        ensures parts { OnOk result (kept_parts self.new.parts ≡ fresh_parts moment.old self.old.unit) }
+        ensures parts { OnOk result (kept_parts self.new.parts
+            ≡ fresh_parts_by (shells_by (O.opens opener.now)) moment.old self.old.unit) }
         ensures flags { OnOk result (flags_of_parts self.new.parts
-            ≡ part_flags moment.old self.old.unit (kept_parts self.old.parts)) }
-        ensures renewed { OnOk result (self.new.renewed ≡ true) }
+            ≡ part_flags_by (shells_by (O.opens opener.now)) moment.old self.old.unit (kept_parts self.old.parts)) }
+        ensures renewed { OnOk result (self.new.renewed
+            ≡ not (unit_stays_by (shells_by (O.opens opener.now)) moment.old (entry_of self.old)
+            (kept_parts self.old.parts))) }
+        ensures stays { self.new.renewed ≡ false → wide_outcome self.new.kept ≡ wide_outcome self.old.kept }
+        ensures parts_same { self.new.renewed ≡ false → kept_parts self.new.parts ≡ kept_parts self.old.parts }
         ensures moment { moment.new ≡ moment.old }
-        ensures charge { IfOk result (λ n. n ≡ unit_charge_with moment.old self.old.unit
+        ensures charge { IfOk result (λ n. n ≡ unit_charge_by (shells_by (O.opens opener.now)) moment.old self.old.unit
             (kept_parts self.old.parts) (spare_of (option_copied spare.entry))) }
         ensures counted { IfOk result (λ n. steps.new ≡ steps.old + n) }
         ensures sound { IsSound self.new }
         ensures err { OnErr result (self.new ≡ self.old) }
     {
         trace_laws();
-        let evaluated = self.evaluated(alloc, moment, spare, steps)?;
+        opener_law();
+        opened_standing_law();
+        opened_fitting_law();
+        let evaluated = self.evaluated(alloc, moment, opener, shelled, spare, steps)?;
+        let own = self.parts.all();
+        let parts = evaluated.parts.all();
+        let stays = stays_kept(used, own, parts);
         self.kept = evaluated.outcome;
         self.parts = evaluated.parts;
-        self.renewed = true;
+        self.shelled = shelled;
+        self.renewed = !stays;
         Ok(evaluated.charge)
     }
 
+    // Whether its parts are what is kept of them wherever its trace can be used, since no opener opens anything.
+    fn keeps_parts(&self, shelled: bool) -> bool
+        ensures { result ≡ not (has_parts self.now.unit && (shelled || self.now.shelled)) }
+    {
+        !(has_parts(&self.unit) && (shelled || self.shelled))
+    }
+
     // Keeps what the unit comes to at the moment, and goes behind it. Where what is kept can't be used, the unit is
-    // evaluated, unless what is spare of it can be used. Where `settled`, the looks are known to agree with what names
-    // have.
+    // evaluated, unless what is spare of it can be used. Where it can, a unit with parts is evaluated all the same, if
+    // the opener may open something (it is `shelled` then), or may have done so when its parts were kept. Where
+    // `settled`, the looks are known to agree with what names have.
     //
     // Answers the charge, and whether names have behind it what they have where all units before it, and it, keep what
     // they kept. False says nothing.
-    pub(crate) fn refresh<L: Ledger>(
+    pub(crate) fn refresh<O: Opener, L: Ledger>(
         &mut self,
         alloc: Global,
         moment: &mut Moment,
         settled: bool,
+        opener: &O,
+        shelled: bool,
         spare: Option<&Bridge>,
         steps: &mut Steps<L>,
     ) -> Result<(u64, bool), Memory>
         requires sound { IsSound self.old }
         requires spare { IfSome (option_copied spare) (IsSpareOf self.old.unit) }
         requires settled { settled ≡ true → AgreesWith moment.old.env (wide_outcome self.old.kept) }
+        requires shut { shelled ≡ false → O.opens opener.now ≡ opens_nothing }
         ensures unit { self.new.unit ≡ self.old.unit }
         ensures source { self.new.source ≡ self.old.source }
         ensures fresh { OnOk result (wide_outcome self.new.kept ≡ outcome_of moment.old self.old.unit) }
-        ensures parts { OnOk result (kept_parts self.new.parts ≡ fresh_parts moment.old self.old.unit) }
+        ensures parts { OnOk result (kept_parts self.new.parts
+            ≡ fresh_parts_by (shells_by (O.opens opener.now)) moment.old self.old.unit) }
         ensures flags { OnOk result (flags_of_parts self.new.parts
-            ≡ part_flags moment.old self.old.unit (kept_parts self.old.parts)) }
-        ensures renewed { OnOk result (self.new.renewed ≡ not (fits moment.old (wide_outcome self.old.kept))) }
+            ≡ part_flags_by (shells_by (O.opens opener.now)) moment.old self.old.unit (kept_parts self.old.parts)) }
+        ensures renewed { OnOk result (self.new.renewed
+            ≡ not (unit_stays_by (shells_by (O.opens opener.now)) moment.old (entry_of self.old)
+            (kept_parts self.old.parts))) }
         ensures stays { self.new.renewed ≡ false → wide_outcome self.new.kept ≡ wide_outcome self.old.kept }
         ensures parts_same { self.new.renewed ≡ false → kept_parts self.new.parts ≡ kept_parts self.old.parts }
         ensures behind { OnOk result (moment.new ≡ behind moment.old (outcome_of moment.old self.old.unit)) }
         ensures settled { IfOk result (λ p. p.1 ≡ true → (settled ≡ true)
             × (moment.new.env ≡ env_behind moment.old.env (wide_outcome self.old.kept))) }
-        ensures charge { IfOk result (λ p. p.0 ≡ charge_with moment.old (entry_of self.old)
+        ensures charge { IfOk result (λ p. p.0
+            ≡ charge_by (shells_by (O.opens opener.now)) moment.old (entry_of self.old)
             (kept_parts self.old.parts) (spare_of (option_copied spare.entry))) }
         ensures counted { IfOk result (λ p. steps.new ≡ steps.old + p.0) }
         ensures most { IfOk result (λ p. p.0 + moment.new.left ≤ moment.old.left) }
         ensures sound { IsSound self.new }
         ensures err { OnErr result ((self.new ≡ self.old)
             ⊎ (wide_outcome self.new.kept ≡ outcome_of moment.old self.old.unit)
-            × (kept_parts self.new.parts ≡ fresh_parts moment.old self.old.unit)) }
+            × (kept_parts self.new.parts ≡ fresh_parts_by (shells_by (O.opens opener.now)) moment.old self.old.unit)) }
     {
         trace_laws();
-        charges_law();
-        if fits(moment, &self.kept, settled) {
+        opener_law();
+        opened_standing_law();
+        opened_fitting_law();
+        opened_cost_law();
+        let used = fits(moment, &self.kept, settled);
+        if used && self.keeps_parts(shelled) {
             moment.go_behind(&self.kept)?;
             self.leave();
             return Ok((0, settled));
         }
         let silent = is_silent(&self.kept);
-        let charge = self.renew(alloc, moment, spare, steps)?;
+        let charge = self.renew(alloc, moment, used, opener, shelled, spare, steps)?;
         moment.go_behind(&self.kept)?;
         Ok((charge, settled && silent && is_silent(&self.kept)))
     }

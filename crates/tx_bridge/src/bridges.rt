@@ -17,10 +17,12 @@ ghost use Rattle.tx_view_form.specs.declared.TheConstants.{MOST_VIEW_STEPS};
 ghost use Rattle.tx_view_form.specs.Outcomes.{beginning, behind, unit_value};
 ghost use Rattle.tx_bridge.specs.Moments.{IsPaid, beginning_with};
 ghost use Rattle.tx_bridge.specs.Entries.{Entry, units_of, fresh_from, outcome_of, behind_all};
-ghost use Rattle.tx_bridge.specs.Reached.{reached_from};
+ghost use Rattle.tx_parts.specs.Opening.{opens_nothing, shells_by};
+ghost use Rattle.tx_bridge.specs.Reached.{reached_from, reached_by_from};
 ghost use Rattle.tx_bridge.specs.MovedParts.{AreMovedParts};
-ghost use Rattle.tx_bridge.specs.PartsKept.{KeptParts, PartsStay, fresh_parts_from, part_flags_from};
-ghost use Rattle.tx_bridge.specs.Spares.{spares_of, charges_with};
+ghost use Rattle.tx_bridge.specs.PartsKept.{KeptParts, PartsStay, fresh_parts_by_from, part_flags_by_from};
+ghost use Rattle.tx_bridge.specs.Spares.{spares_of};
+ghost use Rattle.tx_bridge.specs.Charges.{charges_by};
 ghost use Rattle.tx_bridge.specs.Lent.{spares_in, HaveUnitsOf};
 ghost use Rattle.tx_bridge.specs.HeldParts.{AllPartsHold, kept_parts, flags_of_parts};
 ghost use Rattle.tx_bridge.specs.Settled.{AreSettled};
@@ -35,6 +37,7 @@ ghost use Rattle.tx_mod.specs.declared.mods.Mod.{Mod as Change};
 ghost use Rattle.tx_bridge.specs.InPlace.{IsOneChanged, NoneChanged, numbers_but};
 ghost use Rattle.tx_bridge.specs.Names.{Empty, EmptyParts, Fresh, FreshParts, PartFlags, Charge};
 ghost use Rattle.tx_bridge.specs.Names.{FreshFrom, FreshPartsFrom, PartFlagsFrom, ChargeFrom};
+ghost use Rattle.tx_bridge.specs.Names.{FreshPartsBy, PartFlagsBy, ChargeBy};
 ghost use Rattle.tx_bridge.specs.Names.{Carry, CarryParts, CarryStrays, CarryWithin, IsCourse, PartMoves, Sources};
 ghost use Rattle.tx_bridge.specs.Names.{StraysBeside};
 ghost use Rattle.tx_bridge.specs.Strays.{AreStrays, StandAside, kept_strays};
@@ -55,10 +58,10 @@ use tx_env::Writes;
 use tx_exec::Outcome;
 use tx_exec_form::{size_law, trace_laws};
 use tx_mod::{Mod, carried_law, carried_list_law};
-use tx_parts::{fitting_law, standing_law};
+use tx_parts::{opened_cost_law, opened_fitting_law, opened_standing_law, opener_law};
 use tx_tree::Tree;
 use tx_units::Unit;
-use tx_walk::Part;
+use tx_walk::{Closed, Opener, Part};
 
 /// All units, each with the trace that is kept of it, or nothing.
 ///
@@ -97,7 +100,14 @@ impl Model for Bridges {
 // The units, with nothing kept.
 fn bridges_of(alloc: Global, units: Vec<Unit>) -> Result<Vec<Bridge>, Memory>
     ensures { IfOk result (λ v. v.items
-        ≡ map (λ u. record { unit = u; kept = Outcome.Over; parts = []; renewed = false; source = None })
+        ≡ map (λ u. record {
+          unit = u;
+          kept = Outcome.Over;
+          parts = [];
+          shelled = false;
+          renewed = false;
+          source = None;
+        })
         units.items) }
 {
     Ok(
@@ -133,11 +143,15 @@ fn lent_at(lent: &[Bridge], i: usize) -> Option<&Bridge>
 //
 // Where all looks are known to agree with what the kept traces before them set, none are compared, up to a unit that is
 // evaluated anew and sets names, or whose kept trace did.
-fn refresh_all<L: Ledger>(
+//
+// Where it isn't `shelled`, the opener opens nothing.
+fn refresh_all<O: Opener, L: Ledger>(
     alloc: Global,
     bridges: &mut [Bridge],
     start: Moment,
     settled: bool,
+    opener: &O,
+    shelled: bool,
     spare: &[Bridge],
     steps: &mut Steps<L>,
 ) -> Result<u64, Memory>
@@ -146,14 +160,16 @@ fn refresh_all<L: Ledger>(
     requires settled { settled ≡ true → AreSettled start.env (entries_of bridges.old) }
     requires spare { All IsSound spare.now }
     requires same { HaveUnitsOf spare.now bridges.old }
+    requires shut { shelled ≡ false → O.opens opener.now ≡ opens_nothing }
     ensures fresh { OnOk result (entries_of bridges.new ≡ fresh_from start (units_of (entries_of bridges.old))) }
-    ensures parts { OnOk result
-        (parts_in bridges.new ≡ fresh_parts_from start (units_of (entries_of bridges.old))) }
-    ensures parts_renewed { OnOk result
-        (part_flags_in bridges.new ≡ part_flags_from start (entries_of bridges.old) (parts_in bridges.old)) }
-    ensures renewed { OnOk result (flags_of bridges.new ≡ reached_from start (entries_of bridges.old)) }
-    ensures charge { IfOk result (λ n. n
-        ≡ charges_with start (entries_of bridges.old) (parts_in bridges.old) (spares_in spare.now)) }
+    ensures parts { OnOk result (parts_in bridges.new
+        ≡ fresh_parts_by_from (shells_by (O.opens opener.now)) start (units_of (entries_of bridges.old))) }
+    ensures parts_renewed { OnOk result (part_flags_in bridges.new
+        ≡ part_flags_by_from (shells_by (O.opens opener.now)) start (entries_of bridges.old) (parts_in bridges.old)) }
+    ensures renewed { OnOk result (flags_of bridges.new
+        ≡ reached_by_from (shells_by (O.opens opener.now)) start (entries_of bridges.old) (parts_in bridges.old)) }
+    ensures charge { IfOk result (λ n. n ≡ charges_by (shells_by (O.opens opener.now)) start (entries_of bridges.old)
+        (parts_in bridges.old) (spares_in spare.now)) }
     ensures counted { IfOk result (λ n. steps.new ≡ steps.old + n) }
     ensures most { IfOk result (λ n. n ≤ MOST_VIEW_STEPS) }
     ensures sound { All IsSound bridges.new }
@@ -165,15 +181,23 @@ fn refresh_all<L: Ledger>(
         → slice_get (parts_in bridges.new) i ≡ slice_get (parts_in bridges.old) i) }
     ensures refused { OnErr result ((n : ℕ) × (entries_of bridges.new
         ≡ take n (fresh_from start (units_of (entries_of bridges.old))) ++ drop n (entries_of bridges.old))
-        × (parts_in bridges.new
-        ≡ take n (fresh_parts_from start (units_of (entries_of bridges.old))) ++ drop n (parts_in bridges.old))) }
+        × (parts_in bridges.new ≡ take n (fresh_parts_by_from (shells_by (O.opens opener.now)) start
+        (units_of (entries_of bridges.old))) ++ drop n (parts_in bridges.old))) }
 {
     let mut moment = start;
     let mut still = settled;
     let mut charges = 0;
     for i in 0..bridges.len() {
         let other = lent_at(spare, i);
-        let (charge, goes_on) = bridges[i].refresh(alloc, &mut moment, still, other, steps)?;
+        let (charge, goes_on) = bridges[i].refresh(
+            alloc,
+            &mut moment,
+            still,
+            opener,
+            shelled,
+            other,
+            steps,
+        )?;
         still = goes_on;
         charges += charge;
     }
@@ -253,8 +277,10 @@ impl Bridges {
     }
 
     /// Brings each unit to what evaluating all from nothing gives. What is kept of a unit is used again where its looks
-    /// agree with what names have before it, and its cost is allowed. The steps rise by the charges of the other units:
-    /// a paragraph of the body is charged its parts of which nothing that fits is kept. Answers these charges.
+    /// agree with what names have before it, and its cost is allowed. The steps rise by the charges, which it answers:
+    /// a paragraph of the body is charged its parts of which nothing that fits is kept, and another unit its cost, where
+    /// nothing that fits is kept of it. A paragraph is reached also where its parts aren't those that were kept, as
+    /// behind a refresh with an opener.
     ///
     /// What is kept of a part whose flag is down behind it is what was kept at the part's path. Of a unit that wasn't
     /// reached all that was kept of its parts stays. Strays go.
@@ -268,7 +294,7 @@ impl Bridges {
         ensures parts_stay { OnOk result (PartsStay self.old.parts self.new.parts self.new.part_flags) }
         ensures parts_same { OnOk result ((i : ℕ) → slice_get self.new.renewed i ≡ Some false
             → slice_get self.new.parts i ≡ slice_get self.old.parts i) }
-        ensures renewed { OnOk result (self.new.renewed ≡ reached_from beginning self.old.kept) }
+        ensures renewed { OnOk result (self.new.renewed ≡ reached_from beginning self.old.kept self.old.parts) }
         ensures charge { IfOk result (λ n. n ≡ Charge self.old.kept self.old.parts) }
         ensures counted { IfOk result (λ n. steps.new ≡ steps.old + n) }
         ensures most { IfOk result (λ n. n ≤ MOST_VIEW_STEPS) }
@@ -282,6 +308,7 @@ impl Bridges {
         ensures strays { OnOk result (self.new.strays ≡ []) }
         ensures strays_stay { OnErr result (self.new.strays ≡ self.old.strays) }
     {
+        opened_cost_law();
         let none = Writes::new(Vec::new(alloc));
         self.refresh_from(alloc, &none, None, steps)
     }
@@ -292,7 +319,6 @@ impl Bridges {
     /// What the spare has kept of the same units, of which nothing more is known, serves where what is kept doesn't,
     /// and costs nothing: of a paragraph of the body part by part, and of another unit the whole. Flags don't count it:
     /// they say whether what was kept fits. The spare stays as it is.
-    #[tactic(auto, unfolding(crate::specs::Names::FreshFrom, crate::specs::Names::FreshPartsFrom))]
     pub fn refresh_from<L: Ledger>(
         &mut self,
         alloc: Global,
@@ -309,7 +335,7 @@ impl Bridges {
         ensures parts_same { OnOk result ((i : ℕ) → slice_get self.new.renewed i ≡ Some false
             → slice_get self.new.parts i ≡ slice_get self.old.parts i) }
         ensures renewed { OnOk result
-            (self.new.renewed ≡ reached_from (beginning_with start.now) self.old.kept) }
+            (self.new.renewed ≡ reached_from (beginning_with start.now) self.old.kept self.old.parts) }
         ensures charge { IfOk result (λ n. n
             ≡ ChargeFrom start.now self.old.kept self.old.parts (spares_of (option_copied spare.entry))) }
         ensures counted { IfOk result (λ n. steps.new ≡ steps.old + n) }
@@ -324,14 +350,109 @@ impl Bridges {
         ensures strays { OnOk result (self.new.strays ≡ []) }
         ensures strays_stay { OnErr result (self.new.strays ≡ self.old.strays) }
     {
+        opener_law();
+        self.refresh_by(alloc, start, spare, &Closed, false, steps)
+    }
+
+    /// The same where tags have the shells that the opener tells: these are gone into, so that what stands inside are
+    /// parts. The trees of their layers are evaluated at each refresh, and nothing is kept of them.
+    ///
+    /// A paragraph of the body is charged its parts that neither what is kept holds nor the spare, the trees of layers,
+    /// and one for each node of what the layers' names are set to, whatever is kept of the whole. It is reached also
+    /// where its parts aren't those that were kept, as after a refresh with another opener.
+    pub fn refresh_with<O: Opener, L: Ledger>(
+        &mut self,
+        alloc: Global,
+        start: &Writes,
+        spare: Option<&Bridges>,
+        opener: &O,
+        steps: &mut Steps<L>,
+    ) -> Result<u64, Memory>
+        requires same { IfSome (option_copied spare) (λ others. units_of others.kept ≡ units_of self.old.kept) }
+        ensures fresh { OnOk result (self.new.kept ≡ FreshFrom start.now self.old.kept) }
+        ensures parts { OnOk result
+            (self.new.parts ≡ FreshPartsBy start.now (shells_by (O.opens opener.now)) self.old.kept) }
+        ensures parts_renewed { OnOk result (self.new.part_flags
+            ≡ PartFlagsBy start.now (shells_by (O.opens opener.now)) self.old.kept self.old.parts) }
+        ensures parts_stay { OnOk result (PartsStay self.old.parts self.new.parts self.new.part_flags) }
+        ensures parts_same { OnOk result ((i : ℕ) → slice_get self.new.renewed i ≡ Some false
+            → slice_get self.new.parts i ≡ slice_get self.old.parts i) }
+        ensures renewed { OnOk result (self.new.renewed ≡ reached_by_from (shells_by (O.opens opener.now))
+            (beginning_with start.now) self.old.kept self.old.parts) }
+        ensures charge { IfOk result (λ n. n ≡ ChargeBy start.now (shells_by (O.opens opener.now)) self.old.kept
+            self.old.parts (spares_of (option_copied spare.entry))) }
+        ensures counted { IfOk result (λ n. steps.new ≡ steps.old + n) }
+        ensures most { IfOk result (λ n. n ≤ MOST_VIEW_STEPS) }
+        ensures units { units_of self.new.kept ≡ units_of self.old.kept }
+        ensures sources { self.new.sources ≡ self.old.sources }
+        ensures stays { (i : ℕ) → slice_get self.new.renewed i ≡ Some false
+            → slice_get self.new.kept i ≡ slice_get self.old.kept i }
+        ensures refused { OnErr result ((n : ℕ) × (self.new.kept
+            ≡ take n (FreshFrom start.now self.old.kept) ++ drop n self.old.kept)
+            × (self.new.parts ≡ take n (FreshPartsBy start.now (shells_by (O.opens opener.now)) self.old.kept)
+            ++ drop n self.old.parts)) }
+        ensures strays { OnOk result (self.new.strays ≡ []) }
+        ensures strays_stay { OnErr result (self.new.strays ≡ self.old.strays) }
+    {
+        self.refresh_by(alloc, start, spare, opener, true, steps)
+    }
+
+    // The same. Where it isn't `shelled`, the opener opens nothing.
+    #[tactic(auto, unfolding(crate::specs::Names::FreshFrom, crate::specs::Names::FreshPartsBy))]
+    fn refresh_by<O: Opener, L: Ledger>(
+        &mut self,
+        alloc: Global,
+        start: &Writes,
+        spare: Option<&Bridges>,
+        opener: &O,
+        shelled: bool,
+        steps: &mut Steps<L>,
+    ) -> Result<u64, Memory>
+        requires same { IfSome (option_copied spare) (λ others. units_of others.kept ≡ units_of self.old.kept) }
+        requires shut { shelled ≡ false → O.opens opener.now ≡ opens_nothing }
+        ensures fresh { OnOk result (self.new.kept ≡ FreshFrom start.now self.old.kept) }
+        ensures parts { OnOk result
+            (self.new.parts ≡ FreshPartsBy start.now (shells_by (O.opens opener.now)) self.old.kept) }
+        ensures parts_renewed { OnOk result (self.new.part_flags
+            ≡ PartFlagsBy start.now (shells_by (O.opens opener.now)) self.old.kept self.old.parts) }
+        ensures parts_stay { OnOk result (PartsStay self.old.parts self.new.parts self.new.part_flags) }
+        ensures parts_same { OnOk result ((i : ℕ) → slice_get self.new.renewed i ≡ Some false
+            → slice_get self.new.parts i ≡ slice_get self.old.parts i) }
+        ensures renewed { OnOk result (self.new.renewed ≡ reached_by_from (shells_by (O.opens opener.now))
+            (beginning_with start.now) self.old.kept self.old.parts) }
+        ensures charge { IfOk result (λ n. n ≡ ChargeBy start.now (shells_by (O.opens opener.now)) self.old.kept
+            self.old.parts (spares_of (option_copied spare.entry))) }
+        ensures counted { IfOk result (λ n. steps.new ≡ steps.old + n) }
+        ensures most { IfOk result (λ n. n ≤ MOST_VIEW_STEPS) }
+        ensures units { units_of self.new.kept ≡ units_of self.old.kept }
+        ensures sources { self.new.sources ≡ self.old.sources }
+        ensures stays { (i : ℕ) → slice_get self.new.renewed i ≡ Some false
+            → slice_get self.new.kept i ≡ slice_get self.old.kept i }
+        ensures refused { OnErr result ((n : ℕ) × (self.new.kept
+            ≡ take n (FreshFrom start.now self.old.kept) ++ drop n self.old.kept)
+            × (self.new.parts ≡ take n (FreshPartsBy start.now (shells_by (O.opens opener.now)) self.old.kept)
+            ++ drop n self.old.parts)) }
+        ensures strays { OnOk result (self.new.strays ≡ []) }
+        ensures strays_stay { OnErr result (self.new.strays ≡ self.old.strays) }
+    {
         trace_laws();
-        standing_law();
-        fitting_law();
+        opener_law();
+        opened_standing_law();
+        opened_fitting_law();
         let lent = lent_bridges(spare);
         let bare = start.pairs().is_empty();
         let moment = Moment::beginning_with(alloc, start)?;
         let settled = mem::replace(&mut self.settled, false) && bare;
-        let charges = refresh_all(alloc, &mut self.bridges, moment, settled, lent, steps)?;
+        let charges = refresh_all(
+            alloc,
+            &mut self.bridges,
+            moment,
+            settled,
+            opener,
+            shelled,
+            lent,
+            steps,
+        )?;
         self.settled = bare;
         self.strays.clear();
         Ok(charges)

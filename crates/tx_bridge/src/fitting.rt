@@ -1,5 +1,6 @@
 // Whether what is kept can be used.
-ghost use Rattle.std.specs.Prelude.{◌≡◌, true, IsTrue};
+ghost use Rattle.std.specs.Prelude.{◌≡◌, true, ◌&&◌, IsTrue};
+ghost use Rattle.tx_bridge.specs.HeldParts.{is_same_part, are_same_parts};
 ghost use Rattle.std.specs.List.{list_all};
 ghost use Rattle.std.specs.FinMap as maps;
 ghost use Rattle.tx_exec.specs.Outcomes.{wide_outcome, NamesOnce};
@@ -10,7 +11,7 @@ ghost use Rattle.tx_bridge.specs.Settled.{AgreesWith, IsSilent};
 use crate::moments::Moment;
 use tx_env::Env;
 use tx_exec::{Looks, Outcome};
-use tx_walk::looks_agree;
+use tx_walk::{Part, looks_agree};
 
 // Whether each name has what was found where it was looked up, which is known where `settled`.
 fn agrees_or(env: &Env, looks: &Looks, settled: bool) -> bool
@@ -31,6 +32,35 @@ pub(crate) fn fits(moment: &Moment, kept: &Outcome, settled: bool) -> bool
         Outcome::Done(trace) => agrees_or(moment.env(), &trace.looks, settled)
             && trace.cost <= moment.allowance(),
     }
+}
+
+// Whether the part is the same one, and isn't marked as renewed.
+fn is_same_part(kept: &Part, part: &Part) -> bool
+    ensures { result ≡ is_same_part kept.now part.now }
+{
+    kept.path.steps() == part.path.steps() && !part.renewed
+}
+
+// Whether the parts are the same ones, in order, and none is marked as renewed.
+fn same_parts(kept: &[Part], parts: &[Part]) -> bool
+    ensures { result ≡ are_same_parts kept.now parts.now }
+{
+    if kept.len() != parts.len() {
+        return false;
+    }
+    for i in 0..parts.len() {
+        if !is_same_part(&kept[i], &parts[i]) {
+            return false;
+        }
+    }
+    true
+}
+
+// Whether what is kept of a unit can be used, and its parts are the same ones as were kept.
+pub(crate) fn stays_kept(used: bool, kept: &[Part], parts: &[Part]) -> bool
+    ensures { result ≡ (used && are_same_parts kept.now parts.now) }
+{
+    used && same_parts(kept, parts)
 }
 
 /// Whether a unit that comes to this sets no name.

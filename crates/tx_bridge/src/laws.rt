@@ -11,9 +11,12 @@ ghost use Rattle.tx_bridge.specs.InPlace.{is_changed};
 ghost use Rattle.tx_exec_form.specs.Evaluated.{WideTrace};
 ghost use Rattle.tx_view_form.specs.Outcomes.{Moment};
 ghost use Rattle.tx_bridge.specs.Entries.{Entry, Kept, outcome_of};
-ghost use Rattle.tx_bridge.specs.Reached.{fits};
-ghost use Rattle.tx_bridge.specs.PartsKept.{fresh_parts, charges_from};
-ghost use Rattle.tx_bridge.specs.Spares.{charge_with, charges_with};
+ghost use Rattle.tx_parts.specs.Opening.{Sheller, closed};
+ghost use Rattle.tx_parts.specs.Shellers.{IsSheller};
+ghost use Rattle.tx_bridge.specs.Reached.{fits, unit_stays_by};
+ghost use Rattle.tx_bridge.specs.PartsKept.{fresh_parts, fresh_parts_by};
+ghost use Rattle.tx_bridge.specs.Spares.{UnitSpare};
+ghost use Rattle.tx_bridge.specs.Charges.{layers_charge, charge_by, charge_with, charges_with, charges_from};
 ghost use Rattle.tx_bridge.specs.UnitLists.{AreUnits, IsPlaced};
 ghost use Rattle.tx_bridge.specs.Carrying.{AllStand, AreSameBodies};
 ghost use Rattle.tx_bridge.specs.PartsKept.{KeptParts};
@@ -22,7 +25,7 @@ ghost use Rattle.tx_bridge.specs.Keeping.{all_keep_place};
 
 use tx_exec_form::trace_laws;
 use tx_mod::carried_law;
-use tx_parts::{fitting_law, standing_law};
+use tx_parts::{opened_cost_law, opened_fitting_law, opened_standing_law, opener_law};
 use tx_units::body_laws;
 
 /// A law: the units of buffers are such as `Bridges` asks for, and their trees stand at their paths in the document.
@@ -55,15 +58,38 @@ pub fn keeping_law()
 
 /// A law: where nothing is spare, `refresh_from` charges what `refresh` does. A unit is charged nothing where a trace
 /// that is spare of it can be used at the moment, and its parts are spare as well, as a refresh leaves both of them, at
-/// whatever moment.
+/// whatever moment. Where trees have shells, it is charged then what its layers cost.
 pub fn spare_law()
     ensures nothing { (m : Moment) (es : Kept) (pss : List KeptParts)
         → charges_with m es pss [] ≡ charges_from m es pss }
     ensures whole { (m n : Moment) (e : Entry) (ps : KeptParts) (trace : WideTrace) → IsPlaced e.unit
         → outcome_of n e.unit ≡ Some trace → fits m (Some trace) ≡ true
         → charge_with m e ps (record { trace = Some trace; parts = fresh_parts n e.unit }) ≡ 0 }
+    ensures layers { (sheller : Sheller) → IsSheller sheller → (m n : Moment) (e : Entry) (ps : KeptParts)
+        (trace : WideTrace) → IsPlaced e.unit → outcome_of n e.unit ≡ Some trace → fits m (Some trace) ≡ true
+        → charge_by sheller m e ps (record { trace = Some trace; parts = fresh_parts_by sheller n e.unit })
+        ≡ layers_charge sheller m e.unit }
 {
     trace_laws();
-    fitting_law();
-    standing_law();
+    opener_law();
+    opened_fitting_law();
+    opened_standing_law();
+    opened_cost_law();
+}
+
+/// A law: a unit stays where its trace can be used at the moment, and its parts are kept as well, as a refresh leaves
+/// both of them, at whatever moment. A unit that stays is charged what its layers cost, whatever is spare of it: where
+/// nothing has a shell, nothing.
+pub fn staying_law()
+    ensures stays { (sheller : Sheller) → IsSheller sheller → (m n : Moment) (e : Entry) (trace : WideTrace)
+        → IsPlaced e.unit → e.trace ≡ Some trace → outcome_of n e.unit ≡ Some trace → fits m (Some trace) ≡ true
+        → unit_stays_by sheller m e (fresh_parts_by sheller n e.unit) ≡ true }
+    ensures layers { (sheller : Sheller) (m : Moment) (e : Entry) (ks : KeptParts) (s : UnitSpare)
+        → unit_stays_by sheller m e ks ≡ true → charge_by sheller m e ks s ≡ layers_charge sheller m e.unit }
+    ensures nothing { (m : Moment) (e : Entry) → layers_charge closed m e.unit ≡ 0 }
+{
+    trace_laws();
+    opened_fitting_law();
+    opened_standing_law();
+    opened_cost_law();
 }

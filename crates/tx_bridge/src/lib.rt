@@ -27,7 +27,7 @@ pub use carry_laws::{carry_paths_law, in_place_law};
 pub use course::{Course, PartMove};
 pub use fitting::is_silent;
 pub use keeping::all_keep_place;
-pub use laws::{keeping_law, spare_law, staying_parts_law, unit_list_laws};
+pub use laws::{keeping_law, spare_law, staying_law, staying_parts_law, unit_list_laws};
 pub use moments::{Moment, over_value};
 pub use paths_after::places_after;
 pub use unit_parts::has_parts;

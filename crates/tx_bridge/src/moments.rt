@@ -6,15 +6,15 @@ ghost use Rattle.tx_origin.specs.Values.{plain};
 ghost use Rattle.tx_origin.specs.TaggedTrees.{tagged_of};
 ghost use Rattle.tx_exec.specs.Outcomes.{wide_outcome, NamesOnce};
 ghost use Rattle.tx_view_form.specs.Outcomes.{beginning, allowance, outcome, charge, behind, unit_value, over_value};
-ghost use Rattle.std.specs.Prelude.{true};
+ghost use Rattle.std.specs.Prelude.{true, false};
 ghost use Rattle.std.specs.List.{AllByRecursion, IsDistinct};
 ghost use Rattle.std.specs.Str.{bytes_eq};
 ghost use Rattle.tx_walk.specs.Walked.{paths_of};
 ghost use Rattle.tx_bridge.specs.Entries.{outcome_of};
 ghost use Rattle.tx_bridge.specs.Moments.{IsPaid, beginning_with};
-ghost use Rattle.tx_bridge.specs.PartsKept.{has_parts, fresh_parts, part_flags, unit_parts};
-ghost use Rattle.tx_bridge.specs.Spares.{stores_with};
-ghost use Rattle.tx_walk.specs.Held.{charges};
+ghost use Rattle.tx_parts.specs.Opening.{opens_nothing, shells_by};
+ghost use Rattle.tx_bridge.specs.PartsKept.{has_parts, fresh_parts_by, part_flags_by};
+ghost use Rattle.tx_bridge.specs.Charges.{parts_charge_by};
 ghost use Rattle.tx_bridge.specs.HeldParts.{HoldsPart, PartsHold, kept_parts, flags_of_parts};
 ghost use Rattle.tx_bridge.specs.UnitLists.{IsPlaced};
 
@@ -27,11 +27,11 @@ use tx_env::{Env, Writes};
 use tx_exec::{Outcome, eval};
 use tx_exec_form::{size_law, trace_laws};
 use tx_origin::{Tagged, Value};
-use tx_parts::{fitting_law, standing_law};
+use tx_parts::{opened_fitting_law, opened_standing_law, opener_law};
 use tx_tree::{Label, text_of};
 use tx_units::Unit;
 use tx_view_form::{MOST_UNIT_STEPS, MOST_VIEW_STEPS};
-use tx_walk::{Part, walk, walked_law};
+use tx_walk::{Opener, Part, walk_with, walked_law};
 
 // Sets each name to its tree, in order. Where there is none, as with most paragraphs, it has nothing to do.
 fn set_names(env: &mut Env, writes: &Writes) -> Result<(), Memory>
@@ -145,11 +145,14 @@ impl Moment {
         }
     }
 
-    // What the paragraph of the body comes to, of which these parts are kept, and these are spare. The moment stays.
-    pub(crate) fn by_parts<L: Ledger>(
+    // What the paragraph of the body comes to, of which these parts are kept, and these are spare. Where it isn't
+    // `shelled`, the opener opens nothing. The moment stays.
+    pub(crate) fn by_parts<O: Opener, L: Ledger>(
         &mut self,
         alloc: Global,
         unit: &Unit,
+        opener: &O,
+        shelled: bool,
         kept: &[Part],
         spare: &[Part],
         steps: &mut Steps<L>,
@@ -160,28 +163,36 @@ impl Moment {
         requires distinct { IsDistinct bytes_eq (paths_of kept.now) }
         requires spare_hold { AllByRecursion (HoldsPart unit.now.tagged.tree) spare.now }
         requires spare_distinct { IsDistinct bytes_eq (paths_of spare.now) }
+        requires shut { shelled ≡ false → O.opens opener.now ≡ opens_nothing }
         ensures exact { IfOk result (λ e. wide_outcome e.outcome ≡ outcome_of self.old unit.now) }
         ensures once { IfOk result (λ e. NamesOnce e.outcome) }
-        ensures parts { IfOk result (λ e. kept_parts e.parts ≡ fresh_parts self.old unit.now) }
-        ensures flags { IfOk result (λ e. flags_of_parts e.parts ≡ part_flags self.old unit.now (kept_parts kept.now)) }
-        ensures hold { IfOk result (λ e. PartsHold unit.now (wide_outcome e.outcome) e.parts) }
+        ensures parts { IfOk result (λ e. kept_parts e.parts
+            ≡ fresh_parts_by (shells_by (O.opens opener.now)) self.old unit.now) }
+        ensures flags { IfOk result (λ e. flags_of_parts e.parts
+            ≡ part_flags_by (shells_by (O.opens opener.now)) self.old unit.now (kept_parts kept.now)) }
+        ensures hold { IfOk result (λ e. PartsHold shelled unit.now (wide_outcome e.outcome) e.parts) }
         ensures charge { IfOk result (λ e. e.charge
-            ≡ charges (stores_with (kept_parts kept.now) (kept_parts spare.now)) (unit_parts self.old unit.now)) }
+            ≡ parts_charge_by (shells_by (O.opens opener.now)) self.old unit.now (kept_parts kept.now)
+            (kept_parts spare.now)) }
         ensures counted { IfOk result (λ e. steps.new ≡ steps.old + e.charge) }
         ensures stays { self.new ≡ self.old }
     {
         trace_laws();
-        standing_law();
-        fitting_law();
+        opener_law();
+        opened_standing_law();
+        opened_fitting_law();
         walked_law();
         let allowance = MOST_UNIT_STEPS.min(self.left);
-        let walked = walk(
+        let walked = walk_with(
             alloc,
             &unit.tagged.tree,
             &mut self.env,
             allowance,
+            opener,
             kept,
             spare,
+            &[],
+            &[],
             steps,
         )?;
         Ok(Evaluated {

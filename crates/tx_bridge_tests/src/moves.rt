@@ -212,7 +212,7 @@ const MOVES: &[Series<Move>] = &[
     ),
 ];
 
-fn push_parts(text: &mut String, parts: &[Part]) -> Option<()> {
+pub(crate) fn push_parts(text: &mut String, parts: &[Part]) -> Option<()> {
     for part in parts {
         let mark = if part.renewed { 'x' } else { '.' };
         let path = &part.path;

@@ -15,7 +15,7 @@ use tx_base::Steps;
 use tx_env::Env;
 use tx_exec::Outcome;
 use tx_tree::{Tree, text_of};
-use tx_walk::{Part, Walked, kept_law, walk_with, walked_law};
+use tx_walk::{LayerTrace, Part, Walked, kept_law, walk_with, walked_law};
 
 // How many steps are allowed.
 const ALLOWANCE: u64 = 1_000_000;
@@ -121,6 +121,108 @@ const SHELLS: &[ShellRow] = &[
     },
 ];
 
+// A tree, what the name `m` has in a first walk and in a second one, if anything, and `box` has a box's macro.
+struct LentRow {
+    tree: &'static str,
+    m: Option<&'static str>,
+    m_then: Option<&'static str>,
+    // how many trees of layers are kept of the first walk
+    layers: usize,
+    // what the second walk costs, where the first one's parts are kept, and its layers are kept or are spare
+    charge: u64,
+}
+
+// A box keeps `"red"`, which looks nothing up, and `(value "m")`.
+const LENT: &[LentRow] = &[
+    LentRow {
+        tree: "(box \"abc\")",
+        m: Some("\"7\""),
+        m_then: Some("\"7\""),
+        layers: 2,
+        charge: 0,
+    },
+    // each tree is kept once
+    LentRow {
+        tree: "(box (box \"a\"))",
+        m: Some("\"7\""),
+        m_then: Some("\"7\""),
+        layers: 2,
+        charge: 0,
+    },
+    // nor are the nodes counted of what a name is set to
+    LentRow {
+        tree: "(box \"abc\")",
+        m: Some("(tuple \"p\" (tuple \"q\"))"),
+        m_then: Some("(tuple \"p\" (tuple \"q\"))"),
+        layers: 2,
+        charge: 0,
+    },
+    // the name that is looked up has changed: 3 for the tag, and 2 for the text
+    LentRow {
+        tree: "(box \"abc\")",
+        m: Some("\"7\""),
+        m_then: Some("\"8\""),
+        layers: 2,
+        charge: 5,
+    },
+    // in each of both boxes
+    LentRow {
+        tree: "(box (box \"a\"))",
+        m: Some("\"7\""),
+        m_then: Some("\"8\""),
+        layers: 2,
+        charge: 10,
+    },
+    // and the part that looks up what the layer sets costs 5
+    LentRow {
+        tree: "(document \"a\" (box (document \"b\" (value \"n\"))))",
+        m: Some("\"7\""),
+        m_then: Some("\"8\""),
+        layers: 2,
+        charge: 10,
+    },
+    // 3 for the tag, 6 for the value, and 2 for its nodes
+    LentRow {
+        tree: "(box \"abc\")",
+        m: Some("\"7\""),
+        m_then: Some("(tuple \"p\" (tuple \"q\"))"),
+        layers: 2,
+        charge: 11,
+    },
+    // it had nothing before
+    LentRow {
+        tree: "(box \"abc\")",
+        m: None,
+        m_then: Some("\"7\""),
+        layers: 2,
+        charge: 5,
+    },
+    // it has nothing now: the error costs 16, and is a node
+    LentRow {
+        tree: "(box \"abc\")",
+        m: Some("\"7\""),
+        m_then: None,
+        layers: 2,
+        charge: 17,
+    },
+    // one tree with two traces
+    LentRow {
+        tree: "(document (box \"a\") (assign \"m\" \"8\") (box \"b\"))",
+        m: Some("\"7\""),
+        m_then: Some("\"7\""),
+        layers: 3,
+        charge: 0,
+    },
+    // of which the second one fits
+    LentRow {
+        tree: "(document (box \"a\") (assign \"m\" \"8\") (box \"b\"))",
+        m: Some("\"7\""),
+        m_then: Some("\"9\""),
+        layers: 3,
+        charge: 5,
+    },
+];
+
 // Sets the name to the tree that these words spell, if there are any.
 fn set<L: Ledger>(
     alloc: Global,
@@ -139,13 +241,18 @@ fn set<L: Ledger>(
     env.set(name, tree).ok()
 }
 
-// An environment where `box` and `m` have what the row says.
-fn env_of<L: Ledger>(alloc: Global, row: &ShellRow, steps: &mut Steps<L>) -> Option<Env>
+// An environment where `box` and `m` have this.
+fn env_of<L: Ledger>(
+    alloc: Global,
+    label: Option<&str>,
+    m: Option<&str>,
+    steps: &mut Steps<L>,
+) -> Option<Env>
     ensures { IfSome result (λ env. env.scopes ≡ []) }
 {
     let mut env = Env::new(alloc);
-    set(alloc, &mut env, b"box".as_slice(), row.label, steps)?;
-    set(alloc, &mut env, b"m".as_slice(), row.m, steps)?;
+    set(alloc, &mut env, b"box".as_slice(), label, steps)?;
+    set(alloc, &mut env, b"m".as_slice(), m, steps)?;
     Some(env)
 }
 
@@ -153,7 +260,8 @@ fn env_of<L: Ledger>(alloc: Global, row: &ShellRow, steps: &mut Steps<L>) -> Opt
 fn by_parts<L: Ledger>(
     alloc: Global,
     t: &Tree,
-    row: &ShellRow,
+    label: Option<&str>,
+    m: Option<&str>,
     opener: &Boxes,
     steps: &mut Steps<L>,
 ) -> Option<Walked>
@@ -163,20 +271,34 @@ fn by_parts<L: Ledger>(
 {
     kept_law();
     walked_law();
-    let mut env = env_of(alloc, row, steps)?;
-    match walk_with(alloc, t, &mut env, ALLOWANCE, opener, &[], &[], steps) {
+    let mut env = env_of(alloc, label, m, steps)?;
+    match walk_with(
+        alloc,
+        t,
+        &mut env,
+        ALLOWANCE,
+        opener,
+        &[],
+        &[],
+        &[],
+        &[],
+        steps,
+    ) {
         Ok(walked) => Some(walked),
         Err(_) => None,
     }
 }
 
-// The tree by its parts, of which these are kept.
+// The tree by its parts, of which these are kept, and of its layers these, and others are spare.
 fn again<L: Ledger>(
     alloc: Global,
     t: &Tree,
-    row: &ShellRow,
+    label: Option<&str>,
+    m: Option<&str>,
     opener: &Boxes,
     kept: &[Part],
+    layers: &[LayerTrace],
+    spare: &[LayerTrace],
     steps: &mut Steps<L>,
 ) -> Option<Walked>
     requires sound { IsSound (kept_in kept.now) [] t.now }
@@ -184,30 +306,44 @@ fn again<L: Ledger>(
     requires tidy { All IsTidy kept.now }
 {
     kept_law();
-    let mut env = env_of(alloc, row, steps)?;
-    walk_with(alloc, t, &mut env, ALLOWANCE, opener, kept, &[], steps).ok()
+    let mut env = env_of(alloc, label, m, steps)?;
+    walk_with(
+        alloc,
+        t,
+        &mut env,
+        ALLOWANCE,
+        opener,
+        kept,
+        &[],
+        layers,
+        spare,
+        steps,
+    )
+    .ok()
 }
 
 // What the whole tree comes to.
 fn whole<L: Ledger>(
     alloc: Global,
     t: &Tree,
-    row: &ShellRow,
+    label: Option<&str>,
+    m: Option<&str>,
     steps: &mut Steps<L>,
 ) -> Option<Outcome> {
-    let mut env = env_of(alloc, row, steps)?;
+    let mut env = env_of(alloc, label, m, steps)?;
     evaluated(alloc, t, &mut env, ALLOWANCE, steps)
 }
 
 // Whether the outcome is what evaluating the whole tree gives.
 fn is_whole<L: Ledger>(
     alloc: Global,
-    row: &ShellRow,
+    label: Option<&str>,
+    m: Option<&str>,
     t: &Tree,
     outcome: &Outcome,
     steps: &mut Steps<L>,
 ) -> Option<bool> {
-    let whole = whole(alloc, t, row, steps)?;
+    let whole = whole(alloc, t, label, m, steps)?;
     same(alloc, outcome, &whole, steps)
 }
 
@@ -220,7 +356,7 @@ fn is_as_told<L: Ledger>(
     renewed: bool,
     steps: &mut Steps<L>,
 ) -> Option<bool> {
-    let alike = is_whole(alloc, row, t, &walked.outcome, steps)?;
+    let alike = is_whole(alloc, row.label, row.m, t, &walked.outcome, steps)?;
     let all = walked.parts.iter().all(|part| part.renewed == renewed);
     Some(alike && all && walked.parts.len() == row.parts)
 }
@@ -238,7 +374,7 @@ fn is_held<L: Ledger>(
     requires distinct { IsDistinct bytes_eq (paths_of kept.now) }
     requires tidy { All IsTidy kept.now }
 {
-    let walked = again(alloc, t, row, opener, kept, steps)?;
+    let walked = again(alloc, t, row.label, row.m, opener, kept, &[], &[], steps)?;
     let told = is_as_told(alloc, row, t, &walked, false, steps)?;
     Some(told && walked.charge == row.again)
 }
@@ -269,7 +405,7 @@ fn is_walked<L: Ledger>(
     opener: &Boxes,
     steps: &mut Steps<L>,
 ) -> Option<bool> {
-    let walked = by_parts(alloc, t, row, opener, steps)?;
+    let walked = by_parts(alloc, t, row.label, row.m, opener, steps)?;
     is_charged(alloc, row, t, opener, &walked, steps)
 }
 
@@ -291,8 +427,110 @@ impl Row for ShellRow {
     }
 }
 
+// Whether a second walk for which these are lent is done as told.
+fn is_cheap<L: Ledger>(
+    alloc: Global,
+    row: &LentRow,
+    t: &Tree,
+    opener: &Boxes,
+    kept: &[Part],
+    layers: &[LayerTrace],
+    spare: &[LayerTrace],
+    steps: &mut Steps<L>,
+) -> Option<bool>
+    requires sound { IsSound (kept_in kept.now) [] t.now }
+    requires distinct { IsDistinct bytes_eq (paths_of kept.now) }
+    requires tidy { All IsTidy kept.now }
+{
+    let walked = again(
+        alloc,
+        t,
+        Some(BOX),
+        row.m_then,
+        opener,
+        kept,
+        layers,
+        spare,
+        steps,
+    )?;
+    let alike = is_whole(alloc, Some(BOX), row.m_then, t, &walked.outcome, steps)?;
+    Some(alike && walked.charge == row.charge)
+}
+
+// Whether what this walk answers serves a second one, as what is kept and as what is spare.
+fn is_lent<L: Ledger>(
+    alloc: Global,
+    row: &LentRow,
+    t: &Tree,
+    opener: &Boxes,
+    walked: &Walked,
+    steps: &mut Steps<L>,
+) -> Option<bool>
+    requires sound { IsSound (kept_in walked.now.parts.items) [] t.now }
+    requires distinct { IsDistinct bytes_eq (paths_of walked.now.parts.items) }
+    requires tidy { All IsTidy walked.now.parts.items }
+{
+    let kept = is_cheap(
+        alloc,
+        row,
+        t,
+        opener,
+        &walked.parts,
+        &walked.layers,
+        &[],
+        steps,
+    )?;
+    let spare = is_cheap(
+        alloc,
+        row,
+        t,
+        opener,
+        &walked.parts,
+        &[],
+        &walked.layers,
+        steps,
+    )?;
+    Some(kept && spare && walked.layers.len() == row.layers)
+}
+
+// Whether so does what a first walk of this tree answers.
+fn is_walked_twice<L: Ledger>(
+    alloc: Global,
+    row: &LentRow,
+    t: &Tree,
+    opener: &Boxes,
+    steps: &mut Steps<L>,
+) -> Option<bool> {
+    let walked = by_parts(alloc, t, Some(BOX), row.m, opener, steps)?;
+    is_lent(alloc, row, t, opener, &walked, steps)
+}
+
+// Whether it is so of the row's tree.
+fn is_told_twice<L: Ledger>(
+    alloc: Global,
+    row: &LentRow,
+    opener: &Boxes,
+    steps: &mut Steps<L>,
+) -> Option<bool> {
+    let tree = tree_of(alloc, row.tree, steps)?;
+    is_walked_twice(alloc, row, &tree, opener, steps)
+}
+
+impl Row for LentRow {
+    fn holds<L: Ledger>(&self, alloc: Global, steps: &mut Steps<L>) -> Option<bool> {
+        let opener = Boxes::new(alloc, steps).ok()?;
+        is_told_twice(alloc, self, &opener, steps)
+    }
+}
+
 #[test]
 fn tags_with_shells_are_gone_into(rt: HostRuntime) {
     let wrong = first_untrue::<Brand, _>(rt.alloc(), SHELLS, Blank::new(1));
+    assert_eq!(rt; wrong, None);
+}
+
+#[test]
+fn layers_that_are_kept_cost_nothing(rt: HostRuntime) {
+    let wrong = first_untrue::<Brand, _>(rt.alloc(), LENT, Blank::new(1));
     assert_eq!(rt; wrong, None);
 }

@@ -132,7 +132,11 @@ fn pair_of<L: Ledger>(alloc: Global, words: &str, steps: &mut Steps<L>) -> Optio
 }
 
 // The names with their trees.
-fn writes_of<L: Ledger>(alloc: Global, words: &str, steps: &mut Steps<L>) -> Option<Writes> {
+pub(crate) fn writes_of<L: Ledger>(
+    alloc: Global,
+    words: &str,
+    steps: &mut Steps<L>,
+) -> Option<Writes> {
     let mut pairs = Vec::new(alloc);
     if words.is_empty() {
         return Some(Writes::new(pairs));
@@ -144,7 +148,7 @@ fn writes_of<L: Ledger>(alloc: Global, words: &str, steps: &mut Steps<L>) -> Opt
 }
 
 // The units, refreshed from this start, if there is one.
-fn kept_from<L: Ledger>(
+pub(crate) fn kept_from<L: Ledger>(
     alloc: Global,
     buffers: &[Buffer],
     start: Option<&str>,

@@ -1,12 +1,15 @@
 -- The parts of a tree and the trees of its layers cost at most what the tree does.
 use Rattle.std.proofs.Common.{◌≡◌, ℕ, zero, suc, ◌+◌, ◌*◌, ◌-◌, ◌≤◌, List, [], ◌∷◌, ◌++◌, length, subst, refl, sym}
-use Rattle.std.proofs.Common.{arith}
+use Rattle.std.proofs.Common.{ap, ◌∙◌, append_assoc, length-append, arith}
 use Rattle.std.proofs.lemmas.Grind.{common_steps}
 use Rattle.std.proofs.lemmas.List.Sums.{sum_by-append}
 use Rattle.std.specs.Prelude.{Bool, true, false, nat_le, if◌then◌else◌, Option, Some, None, option_and_then}
 use Rattle.std.specs.Option.{option_map, option_map_or}
 use Rattle.std.specs.List.{sum_by}
-use Rattle.tx_tree.specs.WideTree.{WideTree, leaf}
+use Rattle.tx_tree.specs.WideTree.{WideTree, leaf, size_of, nodes_of}
+use Rattle.tx_origin.specs.Values.{WideValue, plain}
+use Rattle.tx_origin.specs.Under.{value_under}
+use Rattle.tx_origin.proofs.Under.{plain_under}
 use Rattle.tx_origin.proofs.Parts.{nodes_le_size}
 use Rattle.tx_exec_form.specs.Runs.{Before}
 use Rattle.tx_exec_form.specs.Rows.{sizes}
@@ -25,10 +28,14 @@ use Rattle.tx_parts.specs.Layered.{composed_layers, evaluates_in, shell_trace, c
 use Rattle.tx_parts.specs.Shellers.{IsSheller}
 use Rattle.tx_parts.specs.Parts.{Part, part_cost, Finder, parts_from, parts_as, parts, LayerFinder, parts_layers}
 use Rattle.tx_parts.specs.Parts.{parts_opened, parts_by, parts_in}
-use Rattle.tx_parts.specs.LayerCosts.{tree_costs, tree_costs_from, layer_tree_costs, Counter, counts_from, counts_as, LayerCounter}
-use Rattle.tx_parts.specs.LayerCosts.{set_nodes, costs_inside, costs_layers, costs_opened, layer_costs_by, layer_costs_in}
+use Rattle.tx_parts.specs.LayerCosts.{Holder, holds_nothing, tree_counts, tree_counts_from, set_nodes}
+use Rattle.tx_parts.specs.LayerCosts.{layer_tree_costs, layer_set_nodes, Counter, counts_from, counts_as}
+use Rattle.tx_parts.specs.LayerCosts.{LayerCounter, costs_inside, costs_layers, costs_opened, layer_costs_by}
+use Rattle.tx_parts.specs.LayerCosts.{layer_costs_in}
+use Rattle.tx_parts.proofs.Holding.{nothing_less, costs_fewer, costs_in_fewer}
 use Rattle.tx_parts.proofs.Children.{IsWithin, tagged_within, child_within, children_within, evaluates_bounded}
-use Rattle.tx_parts.proofs.Children.{bare_bounded}
+use Rattle.tx_parts.proofs.Children.{bare_bounded, FirstDone, first_done}
+use Rattle.tx_parts.proofs.LayerValues.{pairs_more}
 use Rattle.tx_parts.proofs.Opened.{in_bounded, opened_is, closed_is}
 
 abbrev total : List Part → ℕ
@@ -134,7 +141,7 @@ module _ (k : ℕ) (finder : Finder) (counter : Counter) (below : CostBelow k fi
 
 module _ (k c i : ℕ) (a : SoFar) (x : Name) (xs : List Name) (t : WideTree) (ts : List WideTree) (e : Before) where
   abbrev rest : SoFar → ℕ
-  rest z = tree_costs_from k c (i + 1 + 1) z xs ts e
+  rest z = tree_counts_from holds_nothing paid k c (i + 1 + 1) z xs ts e
 
   abbrev children_after : SoFar → Option SoFar
   children_after z = children_from (evaluates_bare k) c (i + 1 + 1) z (in_turn xs ts) e
@@ -154,7 +161,7 @@ module _ (k c i : ℕ) (a : SoFar) (x : Name) (xs : List Name) (t : WideTree) (t
   by_name : (o : Option WideTrace) → IsWithin k c a →
       evaluates_bare k (c - a.cost) (leaf x) (env_atop a.writes e) ≡ o →
       ((z : SoFar) → IsWithin k c z → z.cost + rest z ≤ children_paid c (children_after z)) →
-      a.cost + option_map_or (λ name. tree_costs k c (i + 1) (with_child i a name) t rest e) o 0 ≤
+      a.cost + option_map_or (λ name. tree_counts holds_nothing paid k c (i + 1) (with_child i a name) t rest e) o 0 ≤
       children_paid c (option_and_then (λ name. children_from (evaluates_bare k) c (i + 1) (with_child i a name)
       (t ∷ in_turn xs ts) e) o)
   by_name None h q go = let cost : a.cost ≤ c = h.0 in omega (arith, cost)
@@ -165,7 +172,7 @@ module _ (k c i : ℕ) (a : SoFar) (x : Name) (xs : List Name) (t : WideTree) (t
 
 -- names and trees from here on
 trees_cost : (k c i : ℕ) (a : SoFar) (xs : List Name) (ts : List WideTree) (e : Before) → IsWithin k c a →
-    a.cost + tree_costs_from k c i a xs ts e ≤
+    a.cost + tree_counts_from holds_nothing paid k c i a xs ts e ≤
     children_paid c (children_from (evaluates_bare k) c i a (in_turn xs ts) e)
 trees_cost k c i a [] ts e h = omega arith
 trees_cost k c i a (x ∷ xs) [] e h = omega arith
@@ -174,15 +181,102 @@ trees_cost k c i a (x ∷ xs) (t ∷ ts) e h =
     (λ z g. trees_cost k c (i + 1 + 1) z xs ts e g)
 
 layer_trees_cost : (k : ℕ) (l : Layer) (c : ℕ) (e : Before) →
-    layer_tree_costs k l c e ≤ children_paid (c - 1) (layer_values k l c e)
+    layer_tree_costs holds_nothing k l c e ≤ children_paid (c - 1) (layer_values k l c e)
 layer_trees_cost k l c e =
-    let all : 0 + layer_tree_costs k l c e ≤ children_paid (c - 1) (layer_values k l c e) =
+    let all : 0 + layer_tree_costs holds_nothing k l c e ≤ children_paid (c - 1) (layer_values k l c e) =
     trees_cost k (c - 1) 0 nothing_yet l.names l.trees e (omega arith, omega arith) in
     omega (arith, all)
 
-nodes_most : (ps : List (Name × WideTree)) → set_nodes ps ≤ sizes (as_sets ps)
-nodes_most [] = omega arith
-nodes_most (p ∷ ps) = omega (arith, nodes_le_size p.1, nodes_most ps)
+-- the nodes of what names are set to
+
+pairs_sizes : (ps qs : List (Name × WideTree)) → sizes (as_sets (ps ++ qs)) ≡ sizes (as_sets ps) + sizes (as_sets qs)
+pairs_sizes [] qs = omega arith
+pairs_sizes (p ∷ ps) qs =
+    let rest : sizes (as_sets (ps ++ qs)) ≡ sizes (as_sets ps) + sizes (as_sets qs) = pairs_sizes ps qs in
+    omega (arith, rest)
+
+sizes_front : (ys xs : List Name) (vs : List WideValue) →
+    sizes (as_sets (layer_pairs ys vs)) ≤ sizes (as_sets (layer_pairs (ys ++ xs) vs))
+sizes_front [] xs vs = omega arith
+sizes_front (y ∷ ys) xs [] = omega arith
+sizes_front (y ∷ ys) xs (v ∷ []) = omega arith
+sizes_front (y ∷ ys) xs (u ∷ v ∷ vs) = omega (arith, sizes_front ys xs vs)
+
+-- those behind the names ys, where names and trees from here on come to b
+abbrev NodesBehind : ℕ → ℕ → ℕ → List Name → List Name → List WideTree → Before → SoFar → Type 0
+NodesBehind k c i ys xs ts e b = (a : SoFar) → length a.values ≡ 2 * length ys →
+    children_from (evaluates_bare k) c i a (in_turn xs ts) e ≡ Some b →
+    sizes (as_sets (layer_pairs ys a.values)) + tree_counts_from holds_nothing set_nodes k c i a xs ts e ≤
+    sizes (as_sets (layer_pairs (ys ++ xs) b.values))
+
+trees_nodes : (k c i : ℕ) (ys xs : List Name) (ts : List WideTree) (e : Before) (b : SoFar) →
+    NodesBehind k c i ys xs ts e b
+trees_nodes k c i ys [] ts e b a many h =
+    let same : a ≡ b = cc in
+    subst (λ (z : SoFar). sizes (as_sets (layer_pairs ys a.values)) + 0 ≤ sizes (as_sets
+    (layer_pairs (ys ++ []) z.values))) same (omega (arith, sizes_front ys [] a.values))
+trees_nodes k c i ys (x ∷ xs) [] e b a many h =
+    let same : a ≡ b = cc in
+    subst (λ (z : SoFar). sizes (as_sets (layer_pairs ys a.values)) + 0 ≤ sizes (as_sets
+    (layer_pairs (ys ++ x ∷ xs) z.values))) same (omega (arith, sizes_front ys (x ∷ xs) a.values))
+trees_nodes k c i ys (x ∷ xs) (t ∷ ts) e b a many h =
+    by_name (first_done (evaluates_bare k) c i a (leaf x) (t ∷ in_turn xs ts) e b h)
+    (trees_nodes k c (i + 1 + 1) (ys ++ x ∷ []) xs ts e b)
+  where
+    by_tree : (f : FirstDone (evaluates_bare k) c i a (leaf x) (t ∷ in_turn xs ts) e b) →
+        FirstDone (evaluates_bare k) c (i + 1) (with_child i a f.trace) t (in_turn xs ts) e b →
+        NodesBehind k c (i + 1 + 1) (ys ++ x ∷ []) xs ts e b →
+        sizes (as_sets (layer_pairs ys a.values))
+        + tree_counts_from holds_nothing set_nodes k c i a (x ∷ xs) (t ∷ ts) e ≤
+        sizes (as_sets (layer_pairs (ys ++ x ∷ xs) b.values))
+    by_tree f g go =
+        let name : WideValue = value_under (i ∷ []) f.trace.value in
+        let value : WideValue = value_under ((i + 1) ∷ []) g.trace.value in
+        let z : SoFar = with_child (i + 1) (with_child i a f.trace) g.trace in
+        let rest : ℕ = tree_counts_from holds_nothing set_nodes k c (i + 1 + 1) z xs ts e in
+        let counts : tree_counts_from holds_nothing set_nodes k c i a (x ∷ xs) (t ∷ ts) e ≡
+        nodes_of (plain g.trace.value) + rest =
+        ap (λ o. option_map_or (λ w. tree_counts holds_nothing set_nodes k c (i + 1) (with_child i a w) t
+        (λ b. tree_counts_from holds_nothing set_nodes k c (i + 1 + 1) b xs ts e) e) o 0) f.first
+        ∙ ap (λ o. set_nodes (c - (with_child i a f.trace).cost) o + option_map_or (λ w. tree_counts_from holds_nothing
+        set_nodes k c (i + 1 + 1) (with_child (i + 1) (with_child i a f.trace) w) xs ts e) o 0) g.first in
+        let values : (a.values ++ name ∷ []) ++ value ∷ [] ≡ a.values ++ name ∷ value ∷ [] =
+        append_assoc a.values (name ∷ []) (value ∷ []) in
+        let two : length (a.values ++ name ∷ value ∷ []) ≡ length a.values + 2 =
+        length-append a.values (name ∷ value ∷ []) in
+        let one : length (ys ++ x ∷ []) ≡ length ys + 1 = length-append ys (x ∷ []) in
+        let long : length ((a.values ++ name ∷ []) ++ value ∷ []) ≡ 2 * length (ys ++ x ∷ []) =
+        ap length values ∙ omega (arith, two, one, many) in
+        let pairs : layer_pairs (ys ++ x ∷ []) ((a.values ++ name ∷ []) ++ value ∷ []) ≡
+        layer_pairs ys a.values ++ (x, plain value) ∷ [] =
+        ap (layer_pairs (ys ++ x ∷ [])) values ∙ pairs_more ys x a.values name value many in
+        let size : sizes (as_sets (layer_pairs (ys ++ x ∷ []) ((a.values ++ name ∷ []) ++ value ∷ []))) ≡
+        sizes (as_sets (layer_pairs ys a.values)) + (size_of (plain value) + 0) =
+        ap (λ ps. sizes (as_sets ps)) pairs ∙ pairs_sizes (layer_pairs ys a.values) ((x, plain value) ∷ []) in
+        let nodes : nodes_of (plain g.trace.value) ≤ size_of (plain value) =
+        subst (λ u. nodes_of u ≤ size_of (plain value)) (plain_under ((i + 1) ∷ []) g.trace.value)
+        (nodes_le_size (plain value)) in
+        let later : sizes (as_sets (layer_pairs (ys ++ x ∷ []) ((a.values ++ name ∷ []) ++ value ∷ []))) + rest ≤
+        sizes (as_sets (layer_pairs ((ys ++ x ∷ []) ++ xs) b.values)) = go z long g.others in
+        let names : sizes (as_sets (layer_pairs ((ys ++ x ∷ []) ++ xs) b.values)) ≡
+        sizes (as_sets (layer_pairs (ys ++ x ∷ xs) b.values)) =
+        ap (λ zs. sizes (as_sets (layer_pairs zs b.values))) (append_assoc ys (x ∷ []) xs) in
+        omega (arith, counts, size, nodes, later, names)
+
+    by_name : FirstDone (evaluates_bare k) c i a (leaf x) (t ∷ in_turn xs ts) e b →
+        NodesBehind k c (i + 1 + 1) (ys ++ x ∷ []) xs ts e b →
+        sizes (as_sets (layer_pairs ys a.values))
+        + tree_counts_from holds_nothing set_nodes k c i a (x ∷ xs) (t ∷ ts) e ≤
+        sizes (as_sets (layer_pairs (ys ++ x ∷ xs) b.values))
+    by_name f go =
+        by_tree f (first_done (evaluates_bare k) c (i + 1) (with_child i a f.trace) t (in_turn xs ts) e b f.others) go
+
+nodes_most : (k : ℕ) (l : Layer) (c : ℕ) (e : Before) (a : SoFar) → layer_values k l c e ≡ Some a →
+    layer_set_nodes holds_nothing k l c e ≤ sizes (as_sets (layer_pairs l.names a.values))
+nodes_most k l c e a h =
+    let all : 0 + layer_set_nodes holds_nothing k l c e ≤ sizes (as_sets (layer_pairs l.names a.values)) =
+    trees_nodes k (c - 1) 0 [] l.names l.trees e a nothing_yet (omega arith) h in
+    omega (arith, all)
 
 layer_most : (k : ℕ) (l : Layer) (c : ℕ) (e : Before) (o : Option SoFar) → layer_values k l c e ≡ o →
     children_paid (c - 1) o ≤ c - 1
@@ -214,7 +308,7 @@ round_cost g n c m p more false o h most few low = omega (arith, h, most, few, l
 module _ (k : ℕ) (finder : Finder) (counter : Counter) (below : CostBelow k finder counter) (inside : LayerFinder)
     (costs : LayerCounter) (within : CostInside k inside costs) where
   layers_cost : (ls : List Layer) (i c : ℕ) (path : List ℕ) (t : WideTree) (e : Before) →
-      total (parts_layers k finder inside ls i c path t e) + costs_layers k counter costs ls c t e ≤
+      total (parts_layers k finder inside ls i c path t e) + costs_layers holds_nothing k counter costs ls c t e ≤
       paid c (composed_layers k (evaluates k) (evaluates_in k) ls i c t e)
   layers_cost [] i c path t e =
       let all = round_cost (child_trace i) 1 c (total (finder (c - 1) (path ++ i ∷ []) t e) + counter (c - 1) t e) 0
@@ -222,30 +316,32 @@ module _ (k : ℕ) (finder : Finder) (counter : Counter) (below : CostBelow k fi
       (paid_most k (c - 1) t e (evaluates k (c - 1) t e) refl) (omega arith) (omega arith) in
       omega (arith, all)
   layers_cost (l ∷ ls) i c path t e =
-      by (layer_values k l c e) (layer_trees_cost k l c e) (layer_most k l c e (layer_values k l c e) refl)
+      by (layer_values k l c e) refl (layer_trees_cost k l c e)
+      (layer_most k l c e (layer_values k l c e) refl)
     where
-      by_test : (a : SoFar) (d : Bool) → layer_tree_costs k l c e ≤ a.cost → a.cost ≤ c - 1 →
+      by_test : (a : SoFar) (d : Bool) → layer_values k l c e ≡ Some a →
+          layer_tree_costs holds_nothing k l c e ≤ a.cost → a.cost ≤ c - 1 →
           d ≡ nat_le (layer_cost l.names a) c →
           total (inside ls i (c - layer_cost l.names a) path t (inside_layer l.names a e))
-          + (layer_tree_costs k l c e + (if d then set_nodes (layer_pairs l.names a.values)
+          + (layer_tree_costs holds_nothing k l c e + (if d then layer_set_nodes holds_nothing k l c e
           + costs ls (c - layer_cost l.names a) t (inside_layer l.names a e) else 0)) ≤
           paid c (if d then option_map (layer_trace l.names a)
           (evaluates_in k ls i (c - layer_cost l.names a) t (inside_layer l.names a e)) else None)
-      by_test a true trees most q =
-          let nodes : set_nodes (layer_pairs l.names a.values) ≤ sizes (as_sets (layer_pairs l.names a.values)) =
-          nodes_most (layer_pairs l.names a.values) in
+      by_test a true done trees most q =
+          let nodes : layer_set_nodes holds_nothing k l c e ≤ sizes (as_sets (layer_pairs l.names a.values)) =
+          nodes_most k l c e a done in
           let low : layer_cost l.names a ≤ c = grind (arith, common_steps, q) in
           let all = round_cost (layer_trace l.names a) (layer_cost l.names a) c
           (total (inside ls i (c - layer_cost l.names a) path t (inside_layer l.names a e))
           + costs ls (c - layer_cost l.names a) t (inside_layer l.names a e))
-          (layer_tree_costs k l c e + set_nodes (layer_pairs l.names a.values)) (λ u. refl) true
+          (layer_tree_costs holds_nothing k l c e + layer_set_nodes holds_nothing k l c e) (λ u. refl) true
           (evaluates_in k ls i (c - layer_cost l.names a) t (inside_layer l.names a e))
           (within ls i (c - layer_cost l.names a) path t (inside_layer l.names a e))
           (in_most k ls i (c - layer_cost l.names a) t (inside_layer l.names a e)
           (evaluates_in k ls i (c - layer_cost l.names a) t (inside_layer l.names a e)) refl)
           (omega (arith, trees, nodes)) (omega (arith, trees, nodes, low)) in
           omega (arith, all)
-      by_test a false trees most q =
+      by_test a false done trees most q =
           let below : total (inside ls i (c - layer_cost l.names a) path t (inside_layer l.names a e))
           + costs ls (c - layer_cost l.names a) t (inside_layer l.names a e) ≤ paid (c - layer_cost l.names a)
           (evaluates_in k ls i (c - layer_cost l.names a) t (inside_layer l.names a e)) =
@@ -254,14 +350,15 @@ module _ (k : ℕ) (finder : Finder) (counter : Counter) (below : CostBelow k fi
           (evaluates_in k ls i (c - layer_cost l.names a) t (inside_layer l.names a e)) refl in
           omega (arith, trees, most, below, few)
 
-      by : (o : Option SoFar) → layer_tree_costs k l c e ≤ children_paid (c - 1) o →
+      by : (o : Option SoFar) → layer_values k l c e ≡ o →
+          layer_tree_costs holds_nothing k l c e ≤ children_paid (c - 1) o →
           children_paid (c - 1) o ≤ c - 1 → total (option_map_or
           (λ a. inside ls i (c - layer_cost l.names a) path t (inside_layer l.names a e)) o [])
-          + (layer_tree_costs k l c e
-          + option_map_or (λ a. costs_inside l.names a (costs ls) c t e) o 0) ≤
+          + (layer_tree_costs holds_nothing k l c e
+          + option_map_or (λ a. costs_inside holds_nothing k l a (costs ls) c t e) o 0) ≤
           paid c (option_and_then (λ a. layer_composed l.names a (evaluates_in k ls i) c t e) o)
-      by None trees most = omega (arith, trees, most)
-      by (Some a) trees most = by_test a (nat_le (layer_cost l.names a) c) trees most refl
+      by None done trees most = omega (arith, trees, most)
+      by (Some a) done trees most = by_test a (nat_le (layer_cost l.names a) c) done trees most refl
 
   opened_cost : (o : Opening) (c : ℕ) (path : List ℕ) (t : WideTree) (e : Before) →
       total (parts_opened o k finder inside c path t e) + costs_opened o k counter costs c t e ≤
@@ -277,28 +374,49 @@ module _ (k : ℕ) (finder : Finder) (counter : Counter) (below : CostBelow k fi
       omega (arith, all)
 
 module _ (sheller : Sheller) (sound : IsSheller sheller) where
+  abbrev counter_by : ℕ → Counter
+  counter_by k = layer_costs_by holds_nothing sheller k
+
+  abbrev counter_in : ℕ → LayerCounter
+  counter_in k = layer_costs_in holds_nothing sheller k
+
   mutual
     unfolding parts_by parts_in layer_costs_by layer_costs_in evaluates_in
 
-    pub all_cost : (k : ℕ) → CostBelow k (parts_by sheller k) (layer_costs_by sheller k)
-    all_cost zero c path t e = omega arith
-    all_cost (suc k) c path t e =
-        subst (λ o. total (parts_by sheller (suc k) c path t e) + layer_costs_by sheller (suc k) c t e ≤ paid c o)
+    unheld_cost : (k : ℕ) → CostBelow k (parts_by sheller k) (counter_by k)
+    unheld_cost zero c path t e = omega arith
+    unheld_cost (suc k) c path t e =
+        subst (λ o. total (parts_by sheller (suc k) c path t e) + counter_by (suc k) c t e ≤ paid c o)
         (sym (opened_is sheller sound k c t e))
-        (opened_cost k (parts_by sheller k) (layer_costs_by sheller k) (all_cost k) (parts_in sheller k)
-        (layer_costs_in sheller k) (all_cost_in k) (opening sheller t e) c path t e)
+        (opened_cost k (parts_by sheller k) (counter_by k) (unheld_cost k) (parts_in sheller k)
+        (counter_in k) (unheld_cost_in k) (opening sheller t e) c path t e)
 
-    pub all_cost_in : (k : ℕ) → CostInside k (parts_in sheller k) (layer_costs_in sheller k)
-    all_cost_in zero ls i c path t e = omega arith
-    all_cost_in (suc k) ls i c path t e =
-        layers_cost k (parts_by sheller k) (layer_costs_by sheller k) (all_cost k) (parts_in sheller k)
-        (layer_costs_in sheller k) (all_cost_in k) ls i c path t e
+    unheld_cost_in : (k : ℕ) → CostInside k (parts_in sheller k) (counter_in k)
+    unheld_cost_in zero ls i c path t e = omega arith
+    unheld_cost_in (suc k) ls i c path t e =
+        layers_cost k (parts_by sheller k) (counter_by k) (unheld_cost k) (parts_in sheller k)
+        (counter_in k) (unheld_cost_in k) ls i c path t e
+
+-- whatever is held
+pub all_cost : (held : Holder) (sheller : Sheller) → IsSheller sheller → (k : ℕ) →
+    CostBelow k (parts_by sheller k) (layer_costs_by held sheller k)
+all_cost held sheller sound k c path t e =
+    let few : layer_costs_by held sheller k c t e ≤ layer_costs_by holds_nothing sheller k c t e =
+    costs_fewer holds_nothing held (nothing_less held) sheller k c t e in
+    omega (arith, few, unheld_cost sheller sound k c path t e)
+
+pub all_cost_in : (held : Holder) (sheller : Sheller) → IsSheller sheller → (k : ℕ) →
+    CostInside k (parts_in sheller k) (layer_costs_in held sheller k)
+all_cost_in held sheller sound k ls i c path t e =
+    let few : layer_costs_in held sheller k ls c t e ≤ layer_costs_in holds_nothing sheller k ls c t e =
+    costs_in_fewer holds_nothing held (nothing_less held) sheller k ls c t e in
+    omega (arith, few, unheld_cost_in sheller sound k ls i c path t e)
 
 pub parts_cost : (k c : ℕ) (path : List ℕ) (t : WideTree) (e : Before) →
     total (parts k c path t e) ≤ paid c (evaluates k c t e)
 parts_cost k c path t e =
-    let all : total (parts k c path t e) + layer_costs_by closed k c t e ≤ paid c (evaluates k c t e) =
-    all_cost closed closed_is k c path t e in
+    let all : total (parts k c path t e) + layer_costs_by holds_nothing closed k c t e ≤ paid c (evaluates k c t e) =
+    all_cost holds_nothing closed closed_is k c path t e in
     omega (arith, all)
 
 -- ---- where nothing has a shell
@@ -323,7 +441,8 @@ module _ (k : ℕ) (counter : Counter) (none : (c : ℕ) (t : WideTree) (e : Bef
   none_as Shut c t e = refl
 
 -- no layer costs anything
-pub closed_costs : (k c : ℕ) (t : WideTree) (e : Before) → layer_costs_by closed k c t e ≡ 0
+pub closed_costs : (held : Holder) (k c : ℕ) (t : WideTree) (e : Before) → layer_costs_by held closed k c t e ≡ 0
 unfolding layer_costs_by
-closed_costs zero c t e = refl
-closed_costs (suc k) c t e = none_as k (layer_costs_by closed k) (closed_costs k) (openness t) c t e
+closed_costs held zero c t e = refl
+closed_costs held (suc k) c t e =
+    none_as k (layer_costs_by held closed k) (closed_costs held k) (openness t) c t e

@@ -45,12 +45,12 @@ there_too k c n t e d trace h g enough =
     let bounds : (trace.cost ≤ c) × (trace.height ≤ k) = allowed k c (alone t) e trace h in
     supports k c (alone t) e trace h k n d g enough bounds.1
 
-label_agrees : (t : WideTree) (e : Before) → Agrees e (label_look t e)
+pub label_agrees : (t : WideTree) (e : Before) → Agrees e (label_look t e)
 label_agrees (leaf words) e = agrees_nothing e
 label_agrees (node label ts) e = agrees_noted e label empty (agrees_nothing e)
 
 -- the looks of what comes later are more
-children_looks : (tracer : Tracer) (c i : ℕ) (a : SoFar) (ts : List WideTree) (e d : Before) (b : SoFar) →
+pub children_looks : (tracer : Tracer) (c i : ℕ) (a : SoFar) (ts : List WideTree) (e d : Before) (b : SoFar) →
     children_from tracer c i a ts e ≡ Some b → Agrees d b.looks → Agrees d a.looks
 children_looks tracer c i a [] e d b h g = let same : b ≡ a = cc in subst (λ (x : SoFar). Agrees d x.looks) same g
 children_looks tracer c i a (t ∷ ts) e d b h g =
@@ -61,7 +61,7 @@ children_looks tracer c i a (t ∷ ts) e d b h g =
     by f go = before_fits d a.writes a.looks f.trace.looks (go (with_child i a f.trace) f.others)
 
 -- what comes later costs more
-children_more : (tracer : Tracer) (c i : ℕ) (a : SoFar) (ts : List WideTree) (e : Before) (b : SoFar) →
+pub children_more : (tracer : Tracer) (c i : ℕ) (a : SoFar) (ts : List WideTree) (e : Before) (b : SoFar) →
     children_from tracer c i a ts e ≡ Some b → a.cost ≤ b.cost
 children_more tracer c i a [] e b h =
     let same : b ≡ a = cc in
@@ -173,11 +173,11 @@ module _ (k : ℕ) (finder : Finder) (below : FitBelow k finder) where
 
 -- ---- layers
 
-bare_agrees : (k c : ℕ) (t : WideTree) (e : Before) (trace : WideTrace) → evaluates_bare k c t e ≡ Some trace →
+pub bare_agrees : (k c : ℕ) (t : WideTree) (e : Before) (trace : WideTrace) → evaluates_bare k c t e ≡ Some trace →
     Agrees e trace.looks
 bare_agrees k c t e trace h = agrees k c (bare t) e trace h
 
-bare_again : (k c n : ℕ) (t : WideTree) (e d : Before) (trace : WideTrace) → evaluates_bare k c t e ≡ Some trace →
+pub bare_again : (k c n : ℕ) (t : WideTree) (e d : Before) (trace : WideTrace) → evaluates_bare k c t e ≡ Some trace →
     Agrees d trace.looks → trace.cost ≤ n → evaluates_bare k n t d ≡ Some trace
 bare_again k c n t e d trace h g enough =
     supports k c (bare t) e trace h k n d g enough (allowed k c (bare t) e trace h).1
@@ -251,13 +251,13 @@ in_agrees (suc k) (l ∷ ls) i c t e trace h =
         (inside_agrees (env_atop d.values.writes e) (layer_sets l.names d.values) d.inner.looks inner))
 
 -- a layer that is done, in another environment with which its looks agree
-record LayerThere (k n : ℕ) (l : Layer) (d : Before) (a : SoFar) (inner : WideTrace) : Type 0 where
-  again : layer_values k l n d ≡ Some a
-  agrees : Agrees (inside_layer l.names a d) inner.looks
-  cheap : layer_cost l.names a ≤ n
-  enough : inner.cost ≤ n - layer_cost l.names a
+pub record LayerThere (k n : ℕ) (l : Layer) (d : Before) (a : SoFar) (inner : WideTrace) : Type 0 where
+  pub again : layer_values k l n d ≡ Some a
+  pub agrees : Agrees (inside_layer l.names a d) inner.looks
+  pub cheap : layer_cost l.names a ≤ n
+  pub enough : inner.cost ≤ n - layer_cost l.names a
 
-layer_there : (k n : ℕ) (l : Layer) (ls : List Layer) (i c : ℕ) (t : WideTree) (e d : Before) (trace : WideTrace)
+pub layer_there : (k n : ℕ) (l : Layer) (ls : List Layer) (i c : ℕ) (t : WideTree) (e d : Before) (trace : WideTrace)
     (z : LayerDone k l ls i c t e trace) → Agrees d trace.looks → trace.cost ≤ n →
     LayerThere k n l d z.values z.inner
 layer_there k n l ls i c t e d trace z g enough =
@@ -280,7 +280,7 @@ layer_there k n l ls i c t e d trace z g enough =
       enough = omega (arith, cost, enough);
     }
 
-holds : (m n : ℕ) → m ≤ n → nat_le m n ≡ true
+pub holds : (m n : ℕ) → m ≤ n → nat_le m n ≡ true
 holds m n h = grind (arith, common_steps, h)
 
 -- the same trace in the other environment, with steps enough

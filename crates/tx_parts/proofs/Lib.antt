@@ -15,8 +15,10 @@ pub mod Openers
 pub mod MacroShells
 pub mod Fitting
 pub mod Standing
+pub mod Holding
 pub mod Costing
 pub mod Recomposing
+pub mod Staying
 pub mod Pairing
 mod Worked
 mod WorkedShells

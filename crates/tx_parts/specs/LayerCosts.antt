@@ -1,45 +1,75 @@
--- What layers cost, of those tags with shells that are gone into on the way to a tree's parts: what their trees cost,
--- and a step for each node of what these come to, which is what names are set to. The names aren't counted, nor are the
--- tags and the nodes of the layers themselves.
-use Rattle.std.specs.Prelude.{ℕ, zero, suc, ◌+◌, ◌-◌, nat_le, if◌then◌else◌, List, [], ◌∷◌}
+-- What layers cost, of those tags with shells that are gone into on the way to a tree's parts: what those of their
+-- trees cost that aren't held, and a step for each node of what these come to, which is what names are set to. The
+-- names aren't counted, nor are the tags and the nodes of the layers themselves.
+use Rattle.std.specs.Prelude.{ℕ, zero, suc, ◌+◌, ◌-◌, ◌≡◌, nat_le, Bool, true, false, if◌then◌else◌, List, [], ◌∷◌}
+use Rattle.std.specs.Prelude.{Option, Some, None}
 use Rattle.std.specs.Option.{option_map_or}
 use Rattle.tx_tree.specs.WideTree.{WideTree, leaf, nodes_of}
 use Rattle.tx_env.specs.Pairs.{Name}
+use Rattle.tx_origin.specs.Values.{plain}
 use Rattle.tx_exec_form.specs.Runs.{Before}
-use Rattle.tx_exec_form.specs.Evaluated.{paid}
+use Rattle.tx_exec_form.specs.Evaluated.{WideTrace, paid}
+use Rattle.tx_exec_form.specs.Laws.{Agrees}
 use Rattle.tx_parts.specs.Atop.{env_atop}
 use Rattle.tx_parts.specs.Openness.{Openness, Document, With, Shut}
 use Rattle.tx_parts.specs.Shells.{Layer}
 use Rattle.tx_parts.specs.Opening.{Sheller, Opening, ByTree, ByShell, opening}
 use Rattle.tx_parts.specs.Composed.{evaluates, SoFar, nothing_yet, with_child, set_by, settings_cost}
-use Rattle.tx_parts.specs.Layered.{evaluates_bare, layer_values, layer_pairs, layer_cost, inside_layer}
+use Rattle.tx_parts.specs.Layered.{evaluates_bare, layer_values, layer_cost, inside_layer}
+
+-- ---- what is held
+
+-- whether it is held what a layer's tree comes to where names have this
+abbrev pub Holder : Type 0
+Holder = WideTree → Before → Bool
+
+abbrev pub holds_nothing : Holder
+holds_nothing t e = false
+
+-- the second holds whatever the first does
+abbrev pub HoldsMore : Holder → Holder → Type 0
+HoldsMore held more = (t : WideTree) (e : Before) → held t e ≡ true → more t e ≡ true
+
+-- what is held of a tree that isn't over is held where its looks have the same
+abbrev pub StaysHeld : Holder → Type 0
+StaysHeld held = (k c : ℕ) (t : WideTree) (e d : Before) (trace : WideTrace) → held t e ≡ true →
+    evaluates_bare k c t e ≡ Some trace → Agrees d trace.looks → held t d ≡ true
 
 -- ---- a layer
 
--- what a tree of a layer costs behind this, or all steps that are left where it is over, and what those behind it do
-abbrev pub tree_costs : ℕ → ℕ → ℕ → SoFar → WideTree → (SoFar → ℕ) → Before → ℕ
-tree_costs k c i a t rest e =
-    paid (c - a.cost) (evaluates_bare k (c - a.cost) t (env_atop a.writes e))
+-- what is counted of a tree with so many steps, by what it comes to
+abbrev pub TreeMeasure : Type 0
+TreeMeasure = ℕ → Option WideTrace → ℕ
+
+-- the nodes of what a name is set to
+abbrev pub set_nodes : TreeMeasure
+set_nodes c None = 0
+set_nodes c (Some trace) = nodes_of (plain trace.value)
+
+-- in a tree of a layer behind this, unless it is held, and in those behind it
+abbrev pub tree_counts : Holder → TreeMeasure → ℕ → ℕ → ℕ → SoFar → WideTree → (SoFar → ℕ) → Before → ℕ
+tree_counts held measure k c i a t rest e =
+    (if held t (env_atop a.writes e) then 0
+    else measure (c - a.cost) (evaluates_bare k (c - a.cost) t (env_atop a.writes e)))
     + option_map_or (λ trace. rest (with_child i a trace))
     (evaluates_bare k (c - a.cost) t (env_atop a.writes e)) 0
 
--- the trees from here on, each behind its name, which is the child of number i
-abbrev pub tree_costs_from : ℕ → ℕ → ℕ → SoFar → List Name → List WideTree → Before → ℕ
-tree_costs_from k c i a [] ts e = 0
-tree_costs_from k c i a (x ∷ xs) [] e = 0
-tree_costs_from k c i a (x ∷ xs) (t ∷ ts) e =
-    option_map_or (λ name. tree_costs k c (i + 1) (with_child i a name) t
-    (λ b. tree_costs_from k c (i + 1 + 1) b xs ts e) e)
+-- in the trees from here on, each behind its name, which is the child of number i
+abbrev pub tree_counts_from : Holder → TreeMeasure → ℕ → ℕ → ℕ → SoFar → List Name → List WideTree → Before → ℕ
+tree_counts_from held measure k c i a [] ts e = 0
+tree_counts_from held measure k c i a (x ∷ xs) [] e = 0
+tree_counts_from held measure k c i a (x ∷ xs) (t ∷ ts) e =
+    option_map_or (λ name. tree_counts held measure k c (i + 1) (with_child i a name) t
+    (λ b. tree_counts_from held measure k c (i + 1 + 1) b xs ts e) e)
     (evaluates_bare k (c - a.cost) (leaf x) (env_atop a.writes e)) 0
 
--- all trees of a layer
-abbrev pub layer_tree_costs : ℕ → Layer → ℕ → Before → ℕ
-layer_tree_costs k l c e = tree_costs_from k (c - 1) 0 nothing_yet l.names l.trees e
+-- what the trees of a layer cost, each all steps that are left where it is over
+abbrev pub layer_tree_costs : Holder → ℕ → Layer → ℕ → Before → ℕ
+layer_tree_costs held k l c e = tree_counts_from held paid k (c - 1) 0 nothing_yet l.names l.trees e
 
--- the nodes of what names are set to
-abbrev pub set_nodes : List (Name × WideTree) → ℕ
-set_nodes [] = 0
-set_nodes (p ∷ ps) = nodes_of p.1 + set_nodes ps
+-- the nodes of what its names are set to
+abbrev pub layer_set_nodes : Holder → ℕ → Layer → ℕ → Before → ℕ
+layer_set_nodes held k l c e = tree_counts_from held set_nodes k (c - 1) 0 nothing_yet l.names l.trees e
 
 -- ---- layers, and any tree
 
@@ -65,18 +95,18 @@ counts_as Shut k counter c t e = 0
 abbrev pub LayerCounter : Type 0
 LayerCounter = List Layer → Counter
 
--- behind the trees of a layer with these names: nothing, where what it costs isn't allowed
-abbrev pub costs_inside : List Name → SoFar → Counter → Counter
-costs_inside xs a inside c t e =
-    if nat_le (layer_cost xs a) c
-    then set_nodes (layer_pairs xs a.values) + inside (c - layer_cost xs a) t (inside_layer xs a e)
+-- behind the trees of a layer: nothing, where what it costs isn't allowed
+abbrev pub costs_inside : Holder → ℕ → Layer → SoFar → Counter → Counter
+costs_inside held k l a inside c t e =
+    if nat_le (layer_cost l.names a) c
+    then layer_set_nodes held k l c e + inside (c - layer_cost l.names a) t (inside_layer l.names a e)
     else 0
 
-abbrev pub costs_layers : ℕ → Counter → LayerCounter → LayerCounter
-costs_layers k counter inside [] c t e = counter (c - 1) t e
-costs_layers k counter inside (l ∷ ls) c t e =
-    layer_tree_costs k l c e
-    + option_map_or (λ a. costs_inside l.names a (inside ls) c t e) (layer_values k l c e) 0
+abbrev pub costs_layers : Holder → ℕ → Counter → LayerCounter → LayerCounter
+costs_layers held k counter inside [] c t e = counter (c - 1) t e
+costs_layers held k counter inside (l ∷ ls) c t e =
+    layer_tree_costs held k l c e
+    + option_map_or (λ a. costs_inside held k l a (inside ls) c t e) (layer_values k l c e) 0
 
 abbrev pub costs_opened : Opening → ℕ → Counter → LayerCounter → Counter
 costs_opened (ByTree o) k counter inside c t e = counts_as o k counter c t e
@@ -84,12 +114,12 @@ costs_opened (ByShell shell u) k counter inside c t e = inside shell.layers (c -
 
 -- with k levels
 unfoldable mutual
-  pub layer_costs_by : Sheller → ℕ → Counter
-  layer_costs_by sheller zero c t e = 0
-  layer_costs_by sheller (suc k) c t e =
-      costs_opened (opening sheller t e) k (layer_costs_by sheller k) (layer_costs_in sheller k) c t e
+  pub layer_costs_by : Holder → Sheller → ℕ → Counter
+  layer_costs_by held sheller zero c t e = 0
+  layer_costs_by held sheller (suc k) c t e =
+      costs_opened (opening sheller t e) k (layer_costs_by held sheller k) (layer_costs_in held sheller k) c t e
 
-  pub layer_costs_in : Sheller → ℕ → LayerCounter
-  layer_costs_in sheller zero ls c t e = 0
-  layer_costs_in sheller (suc k) ls c t e =
-      costs_layers k (layer_costs_by sheller k) (layer_costs_in sheller k) ls c t e
+  pub layer_costs_in : Holder → Sheller → ℕ → LayerCounter
+  layer_costs_in held sheller zero ls c t e = 0
+  layer_costs_in held sheller (suc k) ls c t e =
+      costs_layers held k (layer_costs_by held sheller k) (layer_costs_in held sheller k) ls c t e

@@ -18,7 +18,7 @@ ghost use Rattle.tx_parts.specs.Composed.{evaluates};
 ghost use Rattle.tx_parts.specs.Layered.{layer_values, evaluates_in, composed_layers, composed_opened, composed_by};
 ghost use Rattle.tx_parts.specs.Shellers.{IsSheller};
 ghost use Rattle.tx_parts.specs.Parts.{HasTrace, stored, part_cost, parts_by, parts_in};
-ghost use Rattle.tx_parts.specs.LayerCosts.{layer_costs_by, layer_costs_in};
+ghost use Rattle.tx_parts.specs.LayerCosts.{Holder, HoldsMore, StaysHeld, layer_costs_by, layer_costs_in};
 ghost use Rattle.tx_parts.specs.Fitting.{AllFit};
 ghost use Rattle.tx_parts.specs.Standing.{StandsIn};
 
@@ -90,14 +90,23 @@ pub fn opened_standing_law()
         IsDistinct bytes_eq (map (λ p. p.path) (parts_by sheller k c path t e)) }
 {}
 
-/// A law: the parts of a tree and the trees of its layers together cost at most what the tree costs, or what it may cost
-/// where it is over. So they do in a tree in layers. Where nothing has a shell no layer costs anything.
+/// A law: the parts of a tree and the trees of its layers together cost at most what the tree costs, or what it may
+/// cost where it is over, whatever is held of the layers. So they do in a tree in layers. Where nothing has a shell no
+/// layer costs anything, and where more is held layers cost no more. Where layers cost nothing, they do so where the
+/// trace of the tree fits.
 pub fn opened_cost_law()
-    ensures tree { (sheller : Sheller) → IsSheller sheller → (k c : ℕ) (path : List ℕ) (t : WideTree) (e : Before) →
-        sum_by part_cost (parts_by sheller k c path t e) + layer_costs_by sheller k c t e ≤
+    ensures tree { (held : Holder) (sheller : Sheller) → IsSheller sheller → (k c : ℕ) (path : List ℕ)
+        (t : WideTree) (e : Before) →
+        sum_by part_cost (parts_by sheller k c path t e) + layer_costs_by held sheller k c t e ≤
         paid c (evaluates k c t e) }
-    ensures inside { (sheller : Sheller) → IsSheller sheller → (k : ℕ) (ls : List Layer) (i c : ℕ) (path : List ℕ)
-        (t : WideTree) (e : Before) → sum_by part_cost (parts_in sheller k ls i c path t e)
-        + layer_costs_in sheller k ls c t e ≤ paid c (evaluates_in k ls i c t e) }
-    ensures nothing { (k c : ℕ) (t : WideTree) (e : Before) → layer_costs_by closed k c t e ≡ 0 }
+    ensures inside { (held : Holder) (sheller : Sheller) → IsSheller sheller → (k : ℕ) (ls : List Layer) (i c : ℕ)
+        (path : List ℕ) (t : WideTree) (e : Before) → sum_by part_cost (parts_in sheller k ls i c path t e)
+        + layer_costs_in held sheller k ls c t e ≤ paid c (evaluates_in k ls i c t e) }
+    ensures nothing { (held : Holder) (k c : ℕ) (t : WideTree) (e : Before) → layer_costs_by held closed k c t e ≡ 0 }
+    ensures fewer { (held more : Holder) (sheller : Sheller) → HoldsMore held more → (k c : ℕ) (t : WideTree)
+        (e : Before) → layer_costs_by more sheller k c t e ≤ layer_costs_by held sheller k c t e }
+    ensures again { (held : Holder) → StaysHeld held → (sheller : Sheller) → IsSheller sheller → (k c n : ℕ)
+        (t : WideTree) (e d : Before) (trace : WideTrace) → evaluates k c t e ≡ Some trace →
+        Agrees d trace.looks → trace.cost ≤ n → layer_costs_by held sheller k c t e ≡ 0 →
+        layer_costs_by held sheller k n t d ≡ 0 }
 {}

@@ -7,7 +7,7 @@ use Rattle.tx_state.specs.States.{State}
 use Rattle.tx_state.specs.contracts.state.EditorState as one_state
 use Rattle.tx_state.specs.declared.edits.Prepared.{Prepared}
 use Rattle.tx_view.specs.Names.{Carry}
-use Rattle.tx_view.specs.Stores.{Stores, coded_Stores}
+use Rattle.tx_view.specs.Stores.{ViewStores, coded_Stores}
 use Rattle.tx_view.specs.WholeViews.{WholeView}
 use Rattle.tx_session.specs.declared.session.Session.TheInside.{Inside}
 use Rattle.tx_session.specs.Worlds.{SeenSession, Keep, WholeSession}
@@ -20,7 +20,7 @@ seen_code =
 
 abbrev keep_code : Coded Keep
 keep_code =
-    code_by (Bool × (Stores × ℕ)) (coded× coded_bool (coded× coded_Stores coded_ℕ))
+    code_by (Bool × (ViewStores × ℕ)) (coded× coded_bool (coded× coded_Stores coded_ℕ))
     (λ k. (k.fresh, (k.stores, k.work))) (λ p. record { fresh = p.0; stores = p.1.0; work = p.1.1 }) (λ _. refl)
 
 abbrev pub whole_session_code : Coded WholeSession

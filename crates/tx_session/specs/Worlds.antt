@@ -5,7 +5,7 @@ use Rattle.tx_outside.specs.Files.{WithFile, OthersKept}
 use Rattle.tx_outside.specs.Known.{WhereKnown}
 use Rattle.tx_outside.specs.Outside.{StoreGoesOn, StoreSeen}
 use Rattle.tx_state.specs.States.{State}
-use Rattle.tx_view.specs.Stores.{Stores}
+use Rattle.tx_view.specs.Stores.{ViewStores}
 
 -- What contracts see of a session: its state, the width and the height of its pages, and whether a command that asks
 -- the view was done since a buffer last changed. Asking it again then takes no memory.
@@ -19,7 +19,7 @@ pub record SeenSession : Type 0 where
 -- last refresh raised the count
 pub record Keep : Type 0 where
   pub fresh : Bool
-  pub stores : Stores
+  pub stores : ViewStores
   pub work : ℕ
 
 -- a session with what it keeps

@@ -28,7 +28,7 @@ use Rattle.tx_part_layout.specs.LaidParts.{placed_paragraphs, placed_lines, AreB
 use Rattle.tx_bridge.specs.Entries.{Entry}
 use Rattle.tx_bridge.specs.HeldParts.{kept_parts, flags_of_parts}
 use Rattle.tx_bridge.specs.PartsKept.{has_parts}
-use Rattle.tx_unit_layout.specs.LaidAts.{LaidAt, laid_at, laid_ats, shown_at, parts_of, is_by_parts}
+use Rattle.tx_unit_layout.specs.LaidAts.{LaidAt, laid_at, laid_ats, shown_at, shown_parts_of, is_by_parts}
 use Rattle.tx_unit_layout.specs.LaidAts.{items_by_parts, unit_items_anew}
 use Rattle.tx_unit_layout.specs.LaidUnits.{IsLaidOut, AreLaidParts}
 use Rattle.tx_unit_layout.specs.Views.{unit_view, IsReadable}
@@ -39,7 +39,7 @@ use Rattle.tx_unit_layout.proofs.Reusing.{anew_alike, anew_within, at_some}
 
 -- what the parts show, by what is kept of them
 parts_are : (a : Attrs) (e : Entry) (ds : List DonePart)
-    → parts_of a e (kept_parts ds) ≡ (whole_shown a ds e.unit.tagged.tree).each
+    → shown_parts_of a e (kept_parts ds) ≡ (whole_shown a ds e.unit.tagged.tree).each
 parts_are a e ds =
     ap (λ (vs : List PartValue). (parts_shown MOST_LEVELS (λ b. b) a vs e.unit.tagged.tree).each) (values_are ds)
 
@@ -63,7 +63,7 @@ laid_ats_are : (a : Attrs) (e : Entry) (ds : List DonePart) (ps : List PlacedPar
 laid_ats_are a e ds ps by h =
     ats_are ps (whole_shown a ds e.unit.tagged.tree).each h
     ∙ ap (map shown_at) (sym (parts_are a e ds))
-    ∙ sym (ap (λ b. if b then map shown_at (parts_of a e (kept_parts ds)) else []) by)
+    ∙ sym (ap (λ b. if b then map shown_at (shown_parts_of a e (kept_parts ds)) else []) by)
 
 -- ---- what is shown
 
@@ -174,7 +174,7 @@ module _ (width : ℕ) (a : Attrs) (u : DocUnit) (trace : WideTrace) (ds : List 
         anew_is
         ∙ ap (items_by_parts (map laid_at old) (flags_of_parts ds)) (sym (parts_are a e ds))
         ∙ sym (ap (λ b. if b
-        then items_by_parts (map laid_at old) (flags_of_parts ds) (parts_of a e (kept_parts ds))
+        then items_by_parts (map laid_at old) (flags_of_parts ds) (shown_parts_of a e (kept_parts ds))
         else items_in (paragraphs_at u.path a trace.value)) by_parts)
 
     pub items_within : n ≤ items_in (paragraphs_at u.path a trace.value)

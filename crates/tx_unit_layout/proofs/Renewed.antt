@@ -19,7 +19,7 @@ use Rattle.tx_part_layout.specs.LaidParts.{IsLaidPart, IsOfValue, laid_paths}
 use Rattle.tx_bridge.specs.Entries.{Entry}
 use Rattle.tx_bridge.specs.HeldParts.{kept_part, kept_parts, flags_of_parts}
 use Rattle.tx_bridge.specs.PartsKept.{KeptParts, kept_at}
-use Rattle.tx_unit_layout.specs.LaidAts.{laid_at, laid_ats, shown_at, parts_of, is_by_parts}
+use Rattle.tx_unit_layout.specs.LaidAts.{laid_at, laid_ats, shown_at, shown_parts_of, is_by_parts}
 use Rattle.tx_unit_layout.specs.LaidUnits.{IsLaidOut, AreOf, AreLaidParts, Stays, WasLaid}
 use Rattle.tx_unit_layout.specs.declared.shown.Shown.{Shown}
 use Rattle.tx_walk.proofs.Found.{if_true, if_false}
@@ -167,7 +167,8 @@ module _ (width : ℕ) (e : Entry) (ds : List DonePart) (a : Attrs) (x : Shown)
   whole_laid : is_by_parts e ≡ false → x.parts ≡ [] → WasLaid width e (kept_parts ds) (flags_of_parts ds) x
   whole_laid whole none =
       now_laid
-      (ap (map laid_at) none ∙ sym (ap (λ b. if b then map shown_at (parts_of a e (kept_parts ds)) else []) whole))
+      (ap (map laid_at) none
+      ∙ sym (ap (λ b. if b then map shown_at (shown_parts_of a e (kept_parts ds)) else []) whole))
       (no_parts width (kept_parts ds) x.parts none)
 
 -- so a unit with this path and this value, of which this call answers

@@ -32,12 +32,12 @@ abbrev pub is_by_parts : Entry → Bool
 is_by_parts e = has_parts e.unit && is_some e.trace
 
 -- what the parts of a unit show, where these are the attributes before it and this is kept of its parts
-abbrev pub parts_of : Attrs → Entry → KeptParts → List ShownPart
-parts_of a e ks = (tree_shown MOST_LEVELS a ks e.unit.tagged.tree).each
+abbrev pub shown_parts_of : Attrs → Entry → KeptParts → List ShownPart
+shown_parts_of a e ks = (tree_shown MOST_LEVELS a ks e.unit.tagged.tree).each
 
 -- where the parts of a unit stand, and the attributes before each, if it is laid out by its parts
 abbrev pub laid_ats : Attrs → Entry → KeptParts → List LaidAt
-laid_ats a e ks = if is_by_parts e then map shown_at (parts_of a e ks) else []
+laid_ats a e ks = if is_by_parts e then map shown_at (shown_parts_of a e ks) else []
 
 -- ---- what laying out anew takes
 
@@ -61,7 +61,7 @@ items_by_parts ls (f ∷ fs) (p ∷ ps) =
 -- all. These are the flags of its parts, and of these they were laid out before.
 abbrev pub unit_items_anew : Attrs → Entry → KeptParts → List Bool → List LaidAt → ℕ
 unit_items_anew a e ks fs ls =
-    if is_by_parts e then items_by_parts ls fs (parts_of a e ks)
+    if is_by_parts e then items_by_parts ls fs (shown_parts_of a e ks)
     else items_in (paragraphs_at e.unit.path a (unit_value e.trace))
 
 -- ---- the code by which proofs tell them apart

@@ -28,7 +28,7 @@ pub record IsLaidOut (width : ℕ) (a : Attrs) (v : WideValue) (path : Option (L
 -- ---- parts
 
 -- what is laid out of a part is of the trace that is kept of it
-pub record IsOf (k : Stored) (p : PlacedPart) : Type 0 where
+pub record IsLaidOfKept (k : Stored) (p : PlacedPart) : Type 0 where
   pub path : p.path ≡ k.path
   pub trace : WideTrace
   pub kept : k.trace ≡ Some trace
@@ -39,7 +39,7 @@ abbrev pub AreOf : KeptParts → List PlacedPart → Type 0
 AreOf [] [] = Unit {0}
 AreOf [] (p ∷ ps) = ⊥
 AreOf (k ∷ ks) [] = ⊥
-AreOf (k ∷ ks) (p ∷ ps) = IsOf k p × AreOf ks ps
+AreOf (k ∷ ks) (p ∷ ps) = IsLaidOfKept k p × AreOf ks ps
 
 -- Of no part something is laid out, or of each part that is kept, in their order. No two have one path.
 pub record AreLaidParts (width : ℕ) (ks : KeptParts) (ps : List PlacedPart) : Type 0 where

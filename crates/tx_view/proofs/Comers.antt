@@ -31,7 +31,7 @@ use Rattle.tx_bridge.specs.PartMoves.{Move, is_vacant, is_outside, rest_in, unit
 use Rattle.tx_bridge.specs.PartMoves.{unit_moves, moves_from, moves_aside, arrived}
 use Rattle.tx_bridge.specs.PartsKept.{KeptParts}
 use Rattle.tx_unit_layout.specs.LaidAts.{LaidAt, laid_at}
-use Rattle.tx_unit_layout.specs.LaidUnits.{IsOf, AreOf, AreLaidParts}
+use Rattle.tx_unit_layout.specs.LaidUnits.{IsLaidOfKept, AreOf, AreLaidParts}
 use Rattle.tx_unit_layout.specs.Moving.{WidePart, wide_part, put_at}
 use Rattle.tx_unit_layout.specs.Views.{IsReadable}
 use Rattle.tx_unit_layout.specs.declared.shown.Shown.{Shown}
@@ -279,13 +279,13 @@ record IsOfWide (k : Stored) (w : WidePart) : Type 0 where
   value : w.laid.value ≡ trace.value
 
 of_number : (ks : KeptParts) (ps : List PlacedPart) (i : ℕ) (k : Stored) (p : PlacedPart) → AreOf ks ps
-    → slice_get ks i ≡ Some k → slice_get ps i ≡ Some p → IsOf k p
+    → slice_get ks i ≡ Some k → slice_get ps i ≡ Some p → IsLaidOfKept k p
 of_number [] [] i k p of at there = cc
 of_number [] (q ∷ ps) i k p of at there = absurd of
 of_number (l ∷ ks) [] i k p of at there = absurd of
 of_number (l ∷ ks) (q ∷ ps) zero k p of at there =
-    subst (λ (r : PlacedPart). IsOf k r) (same_Some q p there)
-    (subst (λ (s : Stored). IsOf s q) (same_Some l k at) of.0)
+    subst (λ (r : PlacedPart). IsLaidOfKept k r) (same_Some q p there)
+    (subst (λ (s : Stored). IsLaidOfKept s q) (same_Some l k at) of.0)
 of_number (l ∷ ks) (q ∷ ps) (suc i) k p of at there = of_number ks ps i k p of.1 at there
 
 -- what is laid out of parts is of what is kept of them, unit by unit
@@ -328,7 +328,7 @@ of_move width pss old vs m w laid move e =
     by ps p at is (inl none) =
         absurd (let off : slice_get [] m.number ≡ Some p = ap (λ qs. slice_get qs m.number) (sym none) ∙ at in cc)
     by ps p at is (inr of) =
-        let o : IsOf move.was p = of_number move.kept ps m.number move.was p of move.part at in
+        let o : IsLaidOfKept move.was p = of_number move.kept ps m.number move.was p of move.part at in
         record {
           path = ap (λ (v : WidePart). v.path) is;
           trace = o.trace;

@@ -18,13 +18,13 @@ use Rattle.tx_unit_layout.specs.LaidUnits.{AreOf}
 use Rattle.tx_unit_layout.specs.declared.shown.Shown.{Shown}
 use Rattle.tx_view.specs.Laid.{AreLaid, laid_parts_in}
 use Rattle.tx_view.specs.Names.{Holds}
-use Rattle.tx_view.specs.Stores.{IsKeptAt, AllLaidAreKept}
+use Rattle.tx_view.specs.Stores.{IsOfKeptPart, AllLaidAreKept}
 use Rattle.tx_view.specs.WholeViews.{WholeView, whole_of, all_of, IsKept}
 use Rattle.tx_view.specs.declared.view.View.TheInside.{Inside}
 use Rattle.tx_view.proofs.Aside.{all_hold_aside}
 use Rattle.tx_view.proofs.Blank.{as_many_laid}
 
-each_kept : (ks : KeptParts) (ps : List PlacedPart) → AreOf ks ps → AllByRecursion (IsKeptAt ks) (map laid_at ps)
+each_kept : (ks : KeptParts) (ps : List PlacedPart) → AreOf ks ps → AllByRecursion (IsOfKeptPart ks) (map laid_at ps)
 each_kept [] [] h = tt
 each_kept [] (p ∷ ps) h = absurd h
 each_kept (k ∷ ks) [] h = tt
@@ -41,14 +41,14 @@ each_kept (k ∷ ks) (p ∷ ps) h = (
     by true o found = (h.0.trace, h.0.kept)
     by false o found = found
 
-    later : (ls : List LaidAt) → AllByRecursion (IsKeptAt ks) ls → AllByRecursion (IsKeptAt (k ∷ ks)) ls
+    later : (ls : List LaidAt) → AllByRecursion (IsOfKeptPart ks) ls → AllByRecursion (IsOfKeptPart (k ∷ ks)) ls
     later [] found = tt
     later (l ∷ ls) found = (by (bytes_eq k.path l.path) (kept_at ks l.path) found.0, later ls found.1)
 
 unit_kept : (ks : KeptParts) (ps : List PlacedPart) → (ps ≡ []) ⊎ AreOf ks ps
-    → AllByRecursion (IsKeptAt ks) (map laid_at ps)
+    → AllByRecursion (IsOfKeptPart ks) (map laid_at ps)
 unit_kept ks ps (inl none) =
-    subst (λ (qs : List PlacedPart). AllByRecursion (IsKeptAt ks) (map laid_at qs)) (sym none) tt
+    subst (λ (qs : List PlacedPart). AllByRecursion (IsOfKeptPart ks) (map laid_at qs)) (sym none) tt
 unit_kept ks ps (inr of) = each_kept ks ps of
 
 -- what is laid out of parts is of parts that are kept

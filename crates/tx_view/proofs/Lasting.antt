@@ -13,7 +13,7 @@ use Rattle.tx_view.specs.declared.paging.Pagination.{Pagination}
 use Rattle.tx_unit_layout.specs.Views.{unit_view}
 use Rattle.tx_unit_layout.specs.declared.shown.Shown.{Shown}
 use Rattle.tx_view.specs.declared.view.View.TheInside.{Inside}
-use Rattle.tx_view.specs.Laid.{StayBut, IsTarget, IsMoved, SetNoName, IsFormer}
+use Rattle.tx_view.specs.Laid.{StayBut, IsTarget, HasGone, SetNoName, IsFormer}
 use Rattle.tx_view.specs.Lone.{IsLone, IsPaged, WerePages}
 use Rattle.tx_view.specs.Units.{unit_views}
 use Rattle.tx_view.specs.WholeViews.{IsKept, all_of}
@@ -30,7 +30,7 @@ pub left_by : (v : Inside) (buffer : ℕ) (ms : List Mod) (t : WideTree) (new : 
     (ss : List (Option ℕ)) (vs : List DocUnit) (former : Option Former) (paged : Pagination) (lone : Option Lone)
     → IsKept v → new ≡ CarryKept buffer ms t v.bridges.kept vs
     → ss ≡ Sources buffer ms t (units_of v.bridges.kept) vs → IsTarget (units_of v.bridges.kept) vs ss to
-    → IsMoved to ss (all_of v) xs → SetNoName v.bridges.kept to
+    → HasGone to ss (all_of v) xs → SetNoName v.bridges.kept to
     → IfSome former (λ f. IsFormer to v.fresh (all_of v) f)
     → IfSome lone (λ l. (former ≡ Some (record { unit = l.unit; attrs = l.attrs; unmarked = l.unmarked }))
     × (l.paged ≡ paged)) → paged ≡ v.paged
@@ -41,7 +41,7 @@ left_by v buffer ms t new xs to ss vs former paged (Some l) h is_new is_ss targe
     let f : IsFormer to v.fresh (all_of v) was =
     subst (λ (o : Option Former). IfSome o (λ p. IsFormer to v.fresh (all_of v) p)) is.0 known in
     let stay : StayBut f.parts l.unit 0 (all_of v) xs =
-    subst (λ (o : Target). IsMoved o ss (all_of v) xs) f.target moved in (
+    subst (λ (o : Target). HasGone o ss (all_of v) xs) f.target moved in (
       left_alone v.width buffer ms t v.bridges.kept new v.bridges.parts (all_of v) xs to ss vs l.unit l.attrs f.parts
           h.laid is_new is_ss target moved silent f.target (fresh_along v h f.was_fresh)
           (laid_there (all_of v) l.unit f.was.shown l.attrs f.was.there f.was.laid),

@@ -26,7 +26,7 @@ use Rattle.tx_view.specs.declared.carrying.Target.TheVariants.{InPlace}
 use Rattle.tx_part_layout.specs.declared.laid.PlacedPart.{PlacedPart}
 use Rattle.tx_unit_layout.specs.declared.shown.Shown.{Shown}
 use Rattle.tx_view.specs.declared.view.View.TheInside.{Inside}
-use Rattle.tx_view.specs.Laid.{AreLaid, laid_in, StayBut, WasShown, IsTarget, IsMoved, SetNoName}
+use Rattle.tx_view.specs.Laid.{AreLaid, laid_in, StayBut, WasShown, IsTarget, HasGone, SetNoName}
 use Rattle.tx_view.specs.Lone.{attributes_along, IsLone}
 use Rattle.tx_bridge.specs.Settled.{IsSilent}
 use Rattle.tx_view.specs.Names.{Fresh}
@@ -200,14 +200,14 @@ laid_within xs i o at = omega (arith, slice_get_within (laid_in xs) i o at, laid
 pub left_alone : (width buffer : ℕ) (ms : List Mod) (t : WideTree) (old new : Kept) (pss : List KeptParts)
     (olds xs : List Shown) (to : Target) (ss : List (Option ℕ)) (vs : List DocUnit) (i : ℕ) (a : Attrs)
     (ps : List PlacedPart) → AreLaid width old pss olds → new ≡ CarryKept buffer ms t old vs
-    → ss ≡ Sources buffer ms t (units_of old) vs → IsTarget (units_of old) vs ss to → IsMoved to ss olds xs
+    → ss ≡ Sources buffer ms t (units_of old) vs → IsTarget (units_of old) vs ss to → HasGone to ss olds xs
     → SetNoName old to → to ≡ InPlace i true ps → laid_in olds ≡ attributes_along empty (traces_of old)
     → slice_get (laid_in olds) i ≡ Some (Some a) → IsLone new xs i a
 unfolding CarryKept Sources
 left_alone width buffer ms t old new pss olds xs to ss vs i a ps laid is_new is_ss target moved silent is along at =
     let here : IsTarget (units_of old) vs ss (InPlace i true ps) =
     subst (λ (o : Target). IsTarget (units_of old) vs ss o) is target in
-    let stay : StayBut ps i 0 olds xs = subst (λ (o : Target). IsMoved o ss olds xs) is moved in
+    let stay : StayBut ps i 0 olds xs = subst (λ (o : Target). HasGone o ss olds xs) is moved in
     let quiet = subst (λ (o : Target). SetNoName old o) is silent in
     let kept : traces_of new ≡ taken i 0 (traces_of old) vs =
     ap traces_of (is_new ∙ ap (λ ns. taken_from (traces_of old) ns vs) (sym is_ss ∙ here.0)) in

@@ -17,9 +17,9 @@ use Rattle.tx_bridge.specs.Strays.{Stray, StandAside, kept_strays}
 use Rattle.tx_part_layout.specs.declared.laid.PlacedPart.{PlacedPart}
 use Rattle.tx_unit_layout.specs.LaidAts.{LaidAt, laid_at}
 use Rattle.tx_unit_layout.specs.declared.shown.Shown.{Shown}
-use Rattle.tx_view.specs.Laid.{laid_in, laid_parts_in, without, dropped, dropped_by, without_parts, stores_in}
+use Rattle.tx_view.specs.Laid.{laid_in, laid_parts_in, without, dropped, dropped_by, without_parts, view_stores_in}
 use Rattle.tx_view.specs.Laid.{StayLaid, ArePartlyLaid}
-use Rattle.tx_view.specs.Stores.{Stores, IsOf, IsPartlyFresh, fresh_stores, attributes_from}
+use Rattle.tx_view.specs.Stores.{ViewStores, HasUnitOf, IsPartlyFresh, fresh_stores, attributes_from}
 use Rattle.tx_view.proofs.Keeping.{Stay}
 
 -- ---- what was laid out is dropped
@@ -87,7 +87,7 @@ same_past xs ys i le le' = slice_get_past xs i le ∙ sym (slice_get_past ys i l
 -- past the last unit nothing is kept before or afterwards
 past_all : (old new : Bridged) (xs ys : List Shown) (i : ℕ) → length xs ≡ length old.kept
     → length ys ≡ length xs → units_of new.kept ≡ units_of old.kept → length xs ≤ i
-    → IsOf (stores_in new ys) (stores_in old xs) i
+    → HasUnitOf (view_stores_in new ys) (view_stores_in old xs) i
 past_all old new xs ys i many as_many same le = record {
   kept =
       same_past new.kept old.kept i
@@ -102,7 +102,7 @@ pub dropped_all : (old new : Bridged) (xs ys : List Shown) (n : ℕ) → length 
     → new.kept ≡ take n (fresh_from beginning (units_of old.kept)) ++ drop n old.kept
     → new.parts ≡ take n (fresh_parts_from beginning (units_of old.kept)) ++ drop n old.parts
     → new.strays ≡ old.strays → ys ≡ map dropped xs
-    → IsPartlyFresh (stores_in old xs) (fresh_stores (units_of old.kept)) (stores_in new ys)
+    → IsPartlyFresh (view_stores_in old xs) (fresh_stores (units_of old.kept)) (view_stores_in new ys)
 dropped_all old new xs ys n many same kept parts strays is = record {
   done = n;
   kept = kept;
@@ -114,8 +114,9 @@ dropped_all old new xs ys n many same kept parts strays is = record {
 }
   where
     by : (i : ℕ) → (slice_get (laid_in (map dropped xs)) i ≡ Some None) ⊎ (length xs ≤ i)
-        → IsOf (stores_in new ys) (stores_in old xs) i
-        ⊎ ((slice_get (laid_in ys) i ≡ Some None) ⊎ IsOf (stores_in new ys) (fresh_stores (units_of old.kept)) i)
+        → HasUnitOf (view_stores_in new ys) (view_stores_in old xs) i
+        ⊎ ((slice_get (laid_in ys) i ≡ Some None)
+        ⊎ HasUnitOf (view_stores_in new ys) (fresh_stores (units_of old.kept)) i)
     by i (inl e) = inr (inl (ap (λ zs. slice_get (laid_in zs) i) is ∙ e))
     by i (inr le) = inl (past_all old new xs ys i many (ap length is ∙ many_dropped xs) same le)
 
@@ -150,7 +151,7 @@ many_without (f ∷ fs) (x ∷ xs) = ap suc (many_without fs xs)
 pub left_laid : (old new : Bridged) (xs ys : List Shown) → length xs ≡ length old.kept
     → units_of new.kept ≡ units_of old.kept → length new.renewed ≡ length new.kept
     → Stay new.renewed old.kept new.kept → ys ≡ without new.renewed xs
-    → StayLaid (stores_in old xs) (stores_in new ys)
+    → StayLaid (view_stores_in old xs) (view_stores_in new ys)
 left_laid old new xs ys many same flags stay is i =
     by (flag_laid new.renewed xs i
     (omega (arith, many, flags, ap length same, many_units new.kept, many_units old.kept)))
@@ -158,7 +159,7 @@ left_laid old new xs ys many same flags stay is i =
     by : (slice_get (laid_in (without new.renewed xs)) i ≡ Some None)
         ⊎ ((slice_get (laid_in (without new.renewed xs)) i ≡ slice_get (laid_in xs) i)
         × (slice_get new.renewed i ≡ Some false) ⊎ (length xs ≤ i))
-        → IsOf (stores_in new ys) (stores_in old xs) i ⊎ (slice_get (laid_in ys) i ≡ Some None)
+        → HasUnitOf (view_stores_in new ys) (view_stores_in old xs) i ⊎ (slice_get (laid_in ys) i ≡ Some None)
     by (inl e) = inr (ap (λ zs. slice_get (laid_in zs) i) is ∙ e)
     by (inr (inl p)) =
         inl (record { kept = stay i p.1; laid = ap (λ zs. slice_get (laid_in zs) i) is ∙ p.0 })
@@ -232,9 +233,9 @@ all_taken xs ys n le le' =
 pub evaluated : (old new : Bridged) (xs mid ys : List Shown)
     → new.kept ≡ fresh_from beginning (units_of old.kept)
     → new.parts ≡ fresh_parts_from beginning (units_of old.kept) → units_of new.kept ≡ units_of old.kept
-    → StayLaid (stores_in old xs) (stores_in new mid) → new.strays ≡ []
+    → StayLaid (view_stores_in old xs) (view_stores_in new mid) → new.strays ≡ []
     → ArePartlyLaid (laid_in mid) (attributes_from beginning (units_of new.kept)) (laid_in ys)
-    → IsPartlyFresh (stores_in old xs) (fresh_stores (units_of old.kept)) (stores_in new (without_parts ys))
+    → IsPartlyFresh (view_stores_in old xs) (fresh_stores (units_of old.kept)) (view_stores_in new (without_parts ys))
 evaluated old new xs mid ys kept parts same stay strays laid =
     let us : List DocUnit = units_of old.kept in
     let fs : Kept = fresh_from beginning us in
@@ -253,12 +254,12 @@ evaluated old new xs mid ys kept parts same stay strays laid =
     by : (i : ℕ)
         → (slice_get (laid_in (without_parts ys)) i ≡ slice_get (laid_in ys) i)
         ⊎ (slice_get (laid_in (without_parts ys)) i ≡ Some None)
-        → IsOf (stores_in new mid) (stores_in old xs) i ⊎ (slice_get (laid_in mid) i ≡ Some None)
+        → HasUnitOf (view_stores_in new mid) (view_stores_in old xs) i ⊎ (slice_get (laid_in mid) i ≡ Some None)
         → (slice_get (laid_in ys) i ≡ slice_get (laid_in mid) i)
         ⊎ (slice_get (laid_in ys) i ≡ slice_get (attributes_from beginning (units_of new.kept)) i)
-        → IsOf (stores_in new (without_parts ys)) (stores_in old xs) i
+        → HasUnitOf (view_stores_in new (without_parts ys)) (view_stores_in old xs) i
         ⊎ ((slice_get (laid_in (without_parts ys)) i ≡ Some None)
-        ⊎ IsOf (stores_in new (without_parts ys)) (fresh_stores (units_of old.kept)) i)
+        ⊎ HasUnitOf (view_stores_in new (without_parts ys)) (fresh_stores (units_of old.kept)) i)
     by i (inr none) p q = inr (inl none)
     by i (inl g) (inl h) (inl e) = inl (record { kept = h.kept; laid = g ∙ e ∙ h.laid })
     by i (inl g) (inr none) (inl e) = inr (inl (g ∙ e ∙ none))
@@ -269,10 +270,11 @@ evaluated old new xs mid ys kept parts same stay strays laid =
         }))
 
 -- all is as making it from nothing leaves it, but for what is laid out of parts
-pub all_fresh : (old : Stores) (new : Bridged) (us : List DocUnit) (xs : List Shown)
-    → stores_in new xs ≡ fresh_stores us → IsPartlyFresh old (fresh_stores us) (stores_in new (without_parts xs))
+pub all_fresh : (old : ViewStores) (new : Bridged) (us : List DocUnit) (xs : List Shown)
+    → view_stores_in new xs ≡ fresh_stores us
+    → IsPartlyFresh old (fresh_stores us) (view_stores_in new (without_parts xs))
 all_fresh old new us xs e =
-    let fresh : Stores = fresh_stores us in
+    let fresh : ViewStores = fresh_stores us in
     let n : ℕ = length fresh.kept + length old.kept + length fresh.parts + length old.parts in
     record {
       done = n;
@@ -287,9 +289,9 @@ all_fresh old new us xs e =
     by : (i : ℕ)
         → (slice_get (laid_in (without_parts xs)) i ≡ slice_get (laid_in xs) i)
         ⊎ (slice_get (laid_in (without_parts xs)) i ≡ Some None)
-        → IsOf (stores_in new (without_parts xs)) old i
+        → HasUnitOf (view_stores_in new (without_parts xs)) old i
         ⊎ ((slice_get (laid_in (without_parts xs)) i ≡ Some None)
-        ⊎ IsOf (stores_in new (without_parts xs)) (fresh_stores us) i)
+        ⊎ HasUnitOf (view_stores_in new (without_parts xs)) (fresh_stores us) i)
     by i (inr none) = inr (inl none)
     by i (inl g) =
         inr (inr (record {

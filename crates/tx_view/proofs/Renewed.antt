@@ -6,13 +6,13 @@ use Rattle.std.proofs.lemmas.Bool.Decides.{Decides-eqb}
 use Rattle.std.proofs.lemmas.Option.{slice_get-get_or, slice_get_past, unwrap_or-slice_get}
 use Rattle.std.proofs.lemmas.List.{length-map}
 use Rattle.std.specs.Option.{unwrap_or}
-use Rattle.std.specs.Prelude.{not, ◌||◌, ◌==◌, if◌then◌else◌, slice_get}
+use Rattle.std.specs.Prelude.{drop, not, ◌||◌, ◌==◌, if◌then◌else◌, slice_get}
 use Rattle.tx_items.specs.declared.attributes.Attrs.{Attrs}
 use Rattle.tx_view_form.specs.Outcomes.{Moment, beginning, behind}
 use Rattle.tx_view_form.specs.Started.{attributes_of}
 use Rattle.tx_bridge.specs.Entries.{Entry, Kept, units_of, outcome_of}
 use Rattle.tx_bridge.specs.PartsKept.{KeptParts, part_flags, part_flags_from}
-use Rattle.tx_bridge.specs.Reached.{fits, reached_from}
+use Rattle.tx_bridge.specs.Reached.{unit_stays, reached_from}
 use Rattle.tx_part_layout.specs.LaidParts.{is_before}
 use Rattle.tx_unit_layout.specs.LaidAts.{LaidAt, laid_at}
 use Rattle.tx_unit_layout.specs.declared.shown.Shown.{Shown}
@@ -32,7 +32,7 @@ relaid_one false laid a n = refl
 
 -- the flags of parts are those by what was kept of them before
 pub unlaid_is : (m : Moment) (kept : Kept) (pss : List KeptParts) (xs : List Shown)
-    → items_unlaid_from m (units_of kept) (part_flags_from m kept pss) (without (reached_from m kept) xs)
+    → items_unlaid_from m (units_of kept) (part_flags_from m kept pss) (without (reached_from m kept pss) xs)
     ≡ items_relaid_from m kept pss (laid_in xs) (laid_parts_in xs)
 unlaid_is m [] pss xs = refl
 unlaid_is m (e ∷ es) [] xs = refl
@@ -40,13 +40,14 @@ unlaid_is m (e ∷ es) (ks ∷ pss) [] = refl
 unlaid_is m (e ∷ es) (ks ∷ pss) (x ∷ xs) =
     let next : Moment = behind m (outcome_of m e.unit) in
     let ls : List LaidAt = map laid_at x.parts in
-    ap (λ n. n + items_unlaid_from next (units_of es) (part_flags_from next es pss) (without (reached_from next es) xs))
-    (relaid_one (fits m e.trace) x.laid (attributes_of m.env) (items_at m e.unit (part_flags m e.unit ks) ls))
+    ap (λ n. n + items_unlaid_from next (units_of es) (part_flags_from next es pss)
+    (without (reached_from next es pss) xs))
+    (relaid_one (unit_stays m e ks) x.laid (attributes_of m.env) (items_at m e.unit (part_flags m e.unit ks) ls))
     ∙ ap (λ n. items_relaid m e ks x.laid ls + n) (unlaid_is next es pss xs)
 
-pub reached_many : (m : Moment) (kept : Kept) → length (reached_from m kept) ≡ length kept
-reached_many m [] = refl
-reached_many m (e ∷ es) = ap suc (reached_many (behind m (outcome_of m e.unit)) es)
+pub reached_many : (m : Moment) (kept : Kept) (pss : List KeptParts) → length (reached_from m kept pss) ≡ length kept
+reached_many m [] pss = refl
+reached_many m (e ∷ es) pss = ap suc (reached_many (behind m (outcome_of m e.unit)) es (drop 1 pss))
 
 pub same_many : (old new : Kept) → units_of new ≡ units_of old → length old ≡ length new
 same_many old new e =
@@ -54,7 +55,7 @@ same_many old new e =
 
 -- the same of flags as a refresh leaves them
 pub relaid_is : (old new : Kept) (olds : List KeptParts) (flags : List Bool) (marks : List (List Bool))
-    (xs ys : List Shown) → flags ≡ reached_from beginning old → marks ≡ part_flags_from beginning old olds
+    (xs ys : List Shown) → flags ≡ reached_from beginning old olds → marks ≡ part_flags_from beginning old olds
     → units_of new ≡ units_of old → ys ≡ without flags xs
     → items_unlaid_from beginning (units_of new) marks ys
     ≡ items_relaid_from beginning old olds (laid_in xs) (laid_parts_in xs)
@@ -83,11 +84,11 @@ alone_next lone i flags alone next renewed before on here is = λ yes k less oth
     ]
 
 -- what was kept of those that were not evaluated anew stays
-pub alone_is : (lone n : ℕ) (old new : Kept) (flags : List Bool) → flags ≡ reached_from beginning old
-    → units_of new ≡ units_of old
+pub alone_is : (lone n : ℕ) (old new : Kept) (olds : List KeptParts) (flags : List Bool)
+    → flags ≡ reached_from beginning old olds → units_of new ≡ units_of old
     → ((i : ℕ) → slice_get flags i ≡ Some false → slice_get new i ≡ slice_get old i)
     → ((k : ℕ) → k < n → (k ≡ lone → ⊥) → unwrap_or (slice_get flags k) false ≡ false) → IsAlone lone n old new flags
-alone_is lone n old new flags is same stays off = record {
+alone_is lone n old new olds flags is same stays off = record {
   no_flag = off;
   stays = λ k less other.
       elim (cases_lt k (length flags)) [
@@ -95,7 +96,7 @@ alone_is lone n old new flags is same stays off = record {
             stays k (slice_get-get_or flags k false within
             ∙ ap Some (sym (unwrap_or-slice_get flags k false) ∙ off k less other))
         | inr past ↦
-            let many : length flags ≡ length old = ap length is ∙ reached_many beginning old in
+            let many : length flags ≡ length old = ap length is ∙ reached_many beginning old olds in
             slice_get_past new k (omega (arith, past, many, same_many old new same))
             ∙ sym (slice_get_past old k (omega (arith, past, many)))
       ];

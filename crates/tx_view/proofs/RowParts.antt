@@ -38,14 +38,14 @@ use Rattle.tx_part_layout.specs.declared.laid.PlacedPart.{PlacedPart}
 use Rattle.tx_part_layout.specs.LaidParts.{IsLaidPart}
 use Rattle.tx_bridge.specs.Entries.{Kept, fresh_from, outcome_of}
 use Rattle.tx_bridge.specs.PartsKept.{KeptParts, fresh_parts, fresh_parts_from}
-use Rattle.tx_unit_layout.specs.LaidAts.{LaidAt, laid_at, laid_ats, shown_at, parts_of, is_by_parts}
+use Rattle.tx_unit_layout.specs.LaidAts.{LaidAt, laid_at, laid_ats, shown_at, shown_parts_of, is_by_parts}
 use Rattle.tx_unit_layout.specs.LaidUnits.{IsLaid, AreLaidParts, AreOf}
 use Rattle.tx_unit_layout.specs.Stretches.{part_stretch, own_stretch, line_parts}
 use Rattle.tx_unit_layout.specs.Views.{unit_view}
 use Rattle.tx_unit_layout.specs.declared.shown.Shown.{Shown}
 use Rattle.tx_view.specs.Costs.{entry_at}
 use Rattle.tx_view.specs.Laid.{AreLaid, laid_in}
-use Rattle.tx_view.specs.RowParts.{AreLineParts, no_parts, part_then, parts_at, AreUnitRowParts, AreRowParts}
+use Rattle.tx_view.specs.RowParts.{AreLineParts, no_parts, part_then, shown_parts_at, AreUnitRowParts, AreRowParts}
 use Rattle.tx_view.specs.RowParts.{no_units, unit_then}
 use Rattle.tx_view.specs.Rows.{unit_row_parts, row_parts}
 use Rattle.tx_view.specs.Stores.{attributes_from}
@@ -208,11 +208,11 @@ no_values (s ∷ ss) e = cc
 
 parts_are : (width : ℕ) (m : Moment) (u : DocUnit) (x : Shown) → AreLaidParts width (fresh_parts m u) x.parts
     → map laid_at x.parts ≡ laid_ats (attributes_of m.env) (entry_at m u) (fresh_parts m u)
-    → AreLineParts width (parts_at m u) (rows_of x.parts)
+    → AreLineParts width (shown_parts_at m u) (rows_of x.parts)
 parts_are width m u x h at = by (is_by_parts (entry_at m u)) h.of_kept at
   where
     ss : List ShownPart
-    ss = parts_of (attributes_of m.env) (entry_at m u) (fresh_parts m u)
+    ss = shown_parts_of (attributes_of m.env) (entry_at m u) (fresh_parts m u)
 
     by : (b : Bool) → (x.parts ≡ []) ⊎ AreOf (fresh_parts m u) x.parts
         → map laid_at x.parts ≡ (if b then map shown_at ss else [])

@@ -22,15 +22,15 @@ use Rattle.tx_unit_layout.specs.declared.shown.Shown.{Shown}
 use Rattle.tx_view.specs.declared.view.View.TheInside.{Inside}
 use Rattle.tx_view.specs.declared.lone.Lone.{Lone}
 use Rattle.tx_view.specs.Costs.{items_relaid_from}
-use Rattle.tx_view.specs.Laid.{AreLaid, HasShortPlaces, laid_in, laid_parts_in, stores_in}
+use Rattle.tx_view.specs.Laid.{AreLaid, HasShortPlaces, laid_in, laid_parts_in, view_stores_in}
 use Rattle.tx_view.specs.Lone.{IsLone, IsPaged, WerePages}
 use Rattle.tx_view.specs.RowParts.{AreRowParts}
 use Rattle.tx_view.specs.Rows.{row_parts}
 use Rattle.tx_view.specs.Names.{Bound, Fresh}
-use Rattle.tx_view.specs.Stores.{Stores, attributes_from, laid_parts_from, fresh_stores}
+use Rattle.tx_view.specs.Stores.{ViewStores, attributes_from, laid_parts_from, fresh_stores}
 use Rattle.tx_view.specs.Units.{unit_views, sums_from, row_counts, error_counts, IsBelow, AreAllApart}
 use Rattle.tx_unit_layout.specs.Views.{IsReadable}
-use Rattle.tx_view.specs.WholeViews.{WholeView, whole_of, all_of, stores_of, IsKept}
+use Rattle.tx_view.specs.WholeViews.{WholeView, whole_of, all_of, view_stores_of, IsKept}
 use Rattle.tx_view.proofs.Forgetting.{AllReadable}
 use Rattle.tx_view.proofs.OfParts.{no_parts}
 
@@ -89,11 +89,11 @@ stale v sized off none rows errors laid reads aside left =
     }
 
 abbrev pub stores_with : Kept → List KeptParts → List (Option Attrs) → List (List LaidAt) → KeptParts → List LaidAt
-    → Stores
+    → ViewStores
 stores_with k pss l lss ks ls =
     record { kept = k; parts = pss; laid = l; laid_parts = lss; strays = ks; laid_strays = ls }
 
-abbrev whole_with : List Buffer → ℕ → ℕ → Bool → List Shown → List Cut → Stores → ℕ → WholeView
+abbrev whole_with : List Buffer → ℕ → ℕ → Bool → List Shown → List Cut → ViewStores → ℕ → WholeView
 whole_with bs w h f xs ps s n =
     record {
       buffers = bs;
@@ -131,7 +131,7 @@ stale_view v bs k pss l lss ks ls off none pages is_bs is_k is_p is_l is_lss is_
     let parts : List KeptParts = v.bridges.parts in
     let strays : KeptParts = kept_strays v.bridges.strays in
     let ats : List LaidAt = map laid_at v.strays in
-    let now : Stores = stores_with kept parts (laid_in hidden) (laid_parts_in hidden) strays ats in
+    let now : ViewStores = stores_with kept parts (laid_in hidden) (laid_parts_in hidden) strays ats in
     ap (λ f. whole_with v.buffers.items w h f shown v.paged.pages.items
     (stores_with kept parts (laid_in (if f then shown else hidden)) (laid_parts_in (if f then shown else hidden))
     strays ats) n) off
@@ -216,7 +216,8 @@ all_made bs old new ps laid lss ks of kept parts attributes ats none =
     ∙ ap fresh_stores of
 
 -- what a refresh of one that isn't fresh takes
-pub bound_stale : (v : Inside) → v.fresh ≡ false → Bound (stores_in v.bridges v.hidden.items) ≡ Bound (stores_of v)
+pub bound_stale : (v : Inside) → v.fresh ≡ false
+    → Bound (view_stores_in v.bridges v.hidden.items) ≡ Bound (view_stores_of v)
 unfolding Bound
 bound_stale v stale =
     ap (λ b. Charge v.bridges.kept v.bridges.parts + items_relaid_from beginning v.bridges.kept v.bridges.parts

@@ -37,7 +37,7 @@ use Rattle.tx_view.specs.declared.carrying.Target.TheVariants.{InPlace, Onto}
 use Rattle.tx_view.specs.Exchanged.{left_at, left_but, laid_arrived, laid_with, all_laid_now, parts_after, strays_after}
 use Rattle.tx_view.specs.Exchanged.{laid_parts_after, laid_strays_after}
 use Rattle.tx_view.specs.Laid.{AreLaid, laid_in, laid_parts_in, parts_left, left_with, IsLeftBy, StayBut}
-use Rattle.tx_view.specs.Laid.{IsTarget, IsWay, IsMoved, IsLeft, HasShortPlaces}
+use Rattle.tx_view.specs.Laid.{IsTarget, IsWay, HasGone, IsLeft, HasShortPlaces}
 use Rattle.tx_view.proofs.Aside.{ats_aside, laid_aside, short_aside}
 use Rattle.tx_view.proofs.Moved.{IsCarried, WasKept, carried_on, Same, AllSame, all_same}
 use Rattle.tx_view.proofs.Numbers.{not_equal, are_equal, AreFrom, from_first}
@@ -354,7 +354,7 @@ pub carried_by : (width buffer : ℕ) (ms : List Mod) (t : WideTree) (old new : 
     → js ≡ strays_after buffer ms t (units_of old) pss ks vs → ss ≡ Sources buffer ms t (units_of old) vs
     → IsTarget (units_of old) vs ss to → IsWay buffer ms t (units_of old) vs ss to
     → IsLeft ms t (units_of old) (PartMoves buffer ms t (units_of old) pss ks vs) vs to olds before after
-    → IsMoved to ss olds xs
+    → HasGone to ss olds xs
     → IsCarried width new qss js (map (had (laid_in olds)) (Sources buffer ms t (units_of old) vs))
     (laid_parts_after buffer ms t (units_of old) pss ks (laid_parts_in olds) (map laid_at before) vs
     (Sources buffer ms t (units_of old) vs))

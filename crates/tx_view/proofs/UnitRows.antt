@@ -14,8 +14,8 @@ use Rattle.tx_unit_layout.specs.Stretches.{WideStretch, stretches, stretch_lines
 use Rattle.tx_unit_layout.specs.Views.{unit_view}
 use Rattle.tx_unit_layout.specs.declared.shown.Shown.{Shown}
 use Rattle.tx_unit_layout.proofs.Stretching.{unit_lines}
-use Rattle.tx_view.specs.Units.{unit_views, sums_from, row_counts, error_counts, number_in}
-use Rattle.tx_view.specs.Rows.{unit_row_parts, IsRow, IsError}
+use Rattle.tx_view.specs.Units.{unit_views, sums_from, row_counts, error_counts, place_among}
+use Rattle.tx_view.specs.Rows.{unit_row_parts, IsRowOfUnit, IsError}
 use Rattle.tx_view.proofs.Numbering.{sums_length}
 
 -- ---- the sums as units come
@@ -146,10 +146,10 @@ found_by g x xs r n o false e t f = found_later g x xs r n o e (is_no_less r n t
 
 pub is_found : {A X : Type 0} (g : A → List X) (h : A → ℕ) → ((x : A) → h x ≡ length (g x))
     → (xs : List A) (r : ℕ)
-    → IsFound g xs r (number_in (map h xs) r)
+    → IsFound g xs r (place_among (map h xs) r)
 is_found g h same [] r = refl
 is_found g h same (x ∷ xs) r =
-    found_by g x xs r (h x) (number_in (map h xs) (r - h x)) (nat_lt r (h x)) (same x) refl
+    found_by g x xs r (h x) (place_among (map h xs) (r - h x)) (nat_lt r (h x)) (same x) refl
     (is_found g h same xs (r - h x))
 
 -- the unit of a row
@@ -168,10 +168,10 @@ row_by : (x : UnitView) (xs : List UnitView) (d : UnitView) (r : ℕ) (o : Optio
 row_by x xs d r o q true e = refl
 row_by x xs d r o q false e = e ∙ row_later x xs d q
 
-pub row_is : (xs : List UnitView) (r : ℕ) (d : UnitView) → row_in xs r ≡ row_from xs d (number_in (row_counts xs) r)
+pub row_is : (xs : List UnitView) (r : ℕ) (d : UnitView) → row_in xs r ≡ row_from xs d (place_among (row_counts xs) r)
 row_is [] r d = refl
 row_is (x ∷ xs) r d =
-    row_by x xs d r (row_in xs (r - length x.lines)) (number_in (row_counts xs) (r - length x.lines))
+    row_by x xs d r (row_in xs (r - length x.lines)) (place_among (row_counts xs) (r - length x.lines))
     (nat_lt r (length x.lines))
     (row_is xs (r - length x.lines) d)
 
@@ -225,11 +225,11 @@ counts_same : (xs : List Shown) → map (λ x. length (unit_view x).lines) xs �
 counts_same [] = refl
 counts_same (x ∷ xs) = ap (λ ks. length (unit_view x).lines ∷ ks) (counts_same xs)
 
-part_found : (xs : List Shown) (r : ℕ) (o : Option (ℕ × ℕ)) → o ≡ number_in (row_counts (unit_views xs)) r
+part_found : (xs : List Shown) (r : ℕ) (o : Option (ℕ × ℕ)) → o ≡ place_among (row_counts (unit_views xs)) r
     → IsFound unit_row_parts xs r o
 part_found xs r o e =
     subst (λ (q : Option (ℕ × ℕ)). IsFound unit_row_parts xs r q)
-    (ap (λ ks. number_in ks r) (counts_same xs) ∙ sym e)
+    (ap (λ ks. place_among ks r) (counts_same xs) ∙ sym e)
     (is_found unit_row_parts (λ x. length (unit_view x).lines) as_many_parts xs r)
 
 -- ---- where rows and errors stand
@@ -243,7 +243,7 @@ read_view xs i d lt = get_or-map unit_view xs i d (unit_view d) lt
 
 row_case : (xs : List Shown) (r : ℕ) (o : Option (ℕ × ℕ)) → IsFound (λ x. x.lines) (unit_views xs) r o
     → ((d : UnitView) → row_in (unit_views xs) r ≡ row_from (unit_views xs) d o) → IsFound unit_row_parts xs r o
-    → IsRow xs r o
+    → IsRowOfUnit xs r o
 row_case xs r None f h parts = (h nowhere, f)
 row_case xs r (Some p) f h parts =
     let there : p.0 < length xs = omega (arith, f.there, as_many unit_view xs) in (
@@ -256,8 +256,8 @@ row_case xs r (Some p) f h parts =
       },
     )
 
-pub row_told : (xs : List Shown) (r : ℕ) (o : Option (ℕ × ℕ)) → o ≡ number_in (row_counts (unit_views xs)) r
-    → IsRow xs r o
+pub row_told : (xs : List Shown) (r : ℕ) (o : Option (ℕ × ℕ)) → o ≡ place_among (row_counts (unit_views xs)) r
+    → IsRowOfUnit xs r o
 row_told xs r o e =
     row_case xs r o
     (subst (λ (q : Option (ℕ × ℕ)). IsFound (λ x. x.lines) (unit_views xs) r q) (sym e)
@@ -281,7 +281,7 @@ error_case xs r (Some p) f =
       },
     )
 
-pub error_told : (xs : List Shown) (r : ℕ) (o : Option (ℕ × ℕ)) → o ≡ number_in (error_counts (unit_views xs)) r
+pub error_told : (xs : List Shown) (r : ℕ) (o : Option (ℕ × ℕ)) → o ≡ place_among (error_counts (unit_views xs)) r
     → IsError xs r o
 error_told xs r o e =
     error_case xs r o

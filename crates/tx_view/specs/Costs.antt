@@ -6,7 +6,7 @@ use Rattle.tx_view_form.specs.Outcomes.{Moment, behind}
 use Rattle.tx_view_form.specs.Started.{attributes_of}
 use Rattle.tx_bridge.specs.Entries.{Entry, Kept, outcome_of}
 use Rattle.tx_bridge.specs.PartsKept.{KeptParts, fresh_parts, part_flags}
-use Rattle.tx_bridge.specs.Reached.{fits}
+use Rattle.tx_bridge.specs.Reached.{unit_stays}
 use Rattle.tx_part_layout.specs.LaidParts.{is_before}
 use Rattle.tx_unit_layout.specs.LaidAts.{LaidAt, unit_items_anew}
 
@@ -19,13 +19,13 @@ entry_at m u = record { unit = u; trace = outcome_of m u }
 abbrev pub items_at : Moment → DocUnit → List Bool → List LaidAt → ℕ
 items_at m u fs ls = unit_items_anew (attributes_of m.env) (entry_at m u) (fresh_parts m u) fs ls
 
--- a unit is laid out anew where it is evaluated anew, or was laid out for other attributes or not at all
-abbrev pub is_relaid : Moment → Entry → Option Attrs → Bool
-is_relaid m e laid = not (fits m e.trace) || not (is_before laid (attributes_of m.env))
+-- a unit is laid out anew where it doesn't stay, or was laid out for other attributes or not at all
+abbrev pub is_relaid : Moment → Entry → KeptParts → Option Attrs → Bool
+is_relaid m e ks laid = not (unit_stays m e ks) || not (is_before laid (attributes_of m.env))
 
 -- the items that are laid out anew of the unit of which this was laid out
 abbrev pub items_relaid : Moment → Entry → KeptParts → Option Attrs → List LaidAt → ℕ
-items_relaid m e ks laid ls = if is_relaid m e laid then items_at m e.unit (part_flags m e.unit ks) ls else 0
+items_relaid m e ks laid ls = if is_relaid m e ks laid then items_at m e.unit (part_flags m e.unit ks) ls else 0
 
 -- those of all units, from a moment on
 abbrev pub items_relaid_from : Moment → Kept → List KeptParts → List (Option Attrs) → List (List LaidAt) → ℕ

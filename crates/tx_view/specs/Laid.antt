@@ -30,7 +30,7 @@ use Rattle.tx_unit_layout.specs.Views.{unit_view}
 use Rattle.tx_unit_layout.specs.declared.shown.Shown.{Shown}
 use Rattle.tx_view.specs.Costs.{items_at}
 use Rattle.tx_view.specs.Exchanged.{exchanged}
-use Rattle.tx_view.specs.Stores.{Stores, IsOf}
+use Rattle.tx_view.specs.Stores.{ViewStores, HasUnitOf}
 use Rattle.tx_layout.specs.Paging.{Unmarked}
 use Rattle.tx_view.specs.declared.carrying.Former.{Former}
 use Rattle.tx_view.specs.declared.carrying.Target.{Target}
@@ -43,8 +43,8 @@ abbrev pub laid_parts_in : List Shown → List (List LaidAt)
 laid_parts_in xs = map (λ x. map laid_at x.parts) xs
 
 -- where nothing is laid out of parts that stand in no unit
-abbrev pub stores_in : Bridged → List Shown → Stores
-stores_in b xs = record {
+abbrev pub view_stores_in : Bridged → List Shown → ViewStores
+view_stores_in b xs = record {
   kept = b.kept;
   parts = b.parts;
   laid = laid_in xs;
@@ -54,8 +54,8 @@ stores_in b xs = record {
 }
 
 -- where this is laid out of them
-abbrev pub all_stores_in : Bridged → List Shown → List PlacedPart → Stores
-all_stores_in b xs ps = record (stores_in b xs) { laid_strays = map laid_at ps }
+abbrev pub all_stores_in : Bridged → List Shown → List PlacedPart → ViewStores
+all_stores_in b xs ps = record (view_stores_in b xs) { laid_strays = map laid_at ps }
 
 -- each unit is laid out of what is kept of it
 abbrev pub AreLaid : ℕ → Kept → List KeptParts → List Shown → Type 0
@@ -134,8 +134,8 @@ abbrev pub without_parts : List Shown → List Shown
 without_parts xs = map (λ x. dropped_by x.parts x) xs
 
 -- a unit is laid out as before, by the trace of before, or not at all
-abbrev pub StayLaid : Stores → Stores → Type 0
-StayLaid old new = (i : ℕ) → IsOf new old i ⊎ (slice_get new.laid i ≡ Some None)
+abbrev pub StayLaid : ViewStores → ViewStores → Type 0
+StayLaid old new = (i : ℕ) → HasUnitOf new old i ⊎ (slice_get new.laid i ≡ Some None)
 
 -- a unit is laid out as before, or for these attributes
 abbrev pub ArePartlyLaid : List (Option Attrs) → List (Option Attrs) → List (Option Attrs) → Type 0
@@ -284,9 +284,9 @@ IsFew (InPlace i silent ps) = Unit {0}
 IsFew (Onto blanks) = length blanks.items < 2 ^ 32
 
 -- what was shown has gone there
-abbrev pub IsMoved : Target → List (Option ℕ) → List Shown → List Shown → Type 0
-IsMoved (InPlace i silent ps) ss old xs = StayBut ps i 0 old xs
-IsMoved (Onto blanks) ss old xs = xs ≡ moved ss old blanks.items
+abbrev pub HasGone : Target → List (Option ℕ) → List Shown → List Shown → Type 0
+HasGone (InPlace i silent ps) ss old xs = StayBut ps i 0 old xs
+HasGone (Onto blanks) ss old xs = xs ≡ moved ss old blanks.items
 
 -- where `silent`, what was kept of the unit that has changed set no name
 abbrev pub SetNoName : Kept → Target → Type 0

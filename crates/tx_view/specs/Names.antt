@@ -13,10 +13,10 @@ use Rattle.tx_bridge.specs.HeldParts.{AllPartsHold, StoredAllHold}
 use Rattle.tx_bridge.specs.Names.{Charge, Sources, Carry as CarryKept}
 use Rattle.tx_view.specs.Exchanged.{parts_after, strays_after, laid_parts_after, laid_strays_after}
 use Rattle.tx_view.specs.Costs.{items_relaid_from}
-use Rattle.tx_view.specs.Stores.{Stores, fresh_stores, IsKeptAt, AllLaidAreKept}
+use Rattle.tx_view.specs.Stores.{ViewStores, fresh_stores, IsOfKeptPart, AllLaidAreKept}
 
 -- nothing is kept of the units of these buffers
-unfoldable pub Empty : List Buffer → Stores
+unfoldable pub Empty : List Buffer → ViewStores
 Empty buffers = record {
   kept = nothing_kept (units buffers);
   parts = map (λ u. []) (units buffers);
@@ -27,18 +27,18 @@ Empty buffers = record {
 }
 
 -- what making the view of these buffers from nothing leaves
-unfoldable pub Fresh : List Buffer → Stores
+unfoldable pub Fresh : List Buffer → ViewStores
 Fresh buffers = fresh_stores (units buffers)
 
--- What a refresh takes: what the units are charged that are evaluated anew, which for a paragraph of the body are the
--- costs of the parts of which nothing that fits is kept, and the items of those laid out anew, which for one that isn't
--- over are those of the parts of which nothing that fits is kept, or that aren't laid out for the attributes before
--- them.
-unfoldable pub Bound : Stores → ℕ
+-- What a refresh takes: what the units are charged, which for a paragraph of the body are the costs of the parts of
+-- which nothing that fits is kept, and for another unit its cost where nothing that fits is kept of it, and the items
+-- of those laid out anew, which for a paragraph that isn't over are those of the parts of which nothing that fits is
+-- kept, or that aren't laid out for the attributes before them.
+unfoldable pub Bound : ViewStores → ℕ
 Bound s = Charge s.kept s.parts + items_relaid_from beginning s.kept s.parts s.laid s.laid_parts
 
 -- what stays of what is kept, where the modifications of a buffer make the new buffers of the old ones
-unfoldable pub Carry : ℕ → List Mod → List Buffer → Stores → List Buffer → Stores
+unfoldable pub Carry : ℕ → List Mod → List Buffer → ViewStores → List Buffer → ViewStores
 Carry buffer ms old s new = record {
   kept = CarryKept buffer ms (tree_of old buffer) s.kept (units new);
   parts =
@@ -57,8 +57,8 @@ Carry buffer ms old s new = record {
 -- What is kept is of the units of these buffers, of their parts, and of strays, which are places of the document. The
 -- trace of a unit, of a part or of a stray is that of its tree wherever what it looked up is as it was. What is laid out
 -- of a part, or of a stray, is of one that is kept.
-unfoldable pub Holds : List Buffer → Stores → Type 0
+unfoldable pub Holds : List Buffer → ViewStores → Type 0
 Holds buffers s =
     AllHold s.kept × AllPartsHold s.kept s.parts × (units_of s.kept ≡ units buffers)
     × (length s.laid ≡ length s.kept) × AllLaidAreKept s.parts s.laid_parts
-    × StoredAllHold (document_of buffers) s.strays × AllByRecursion (IsKeptAt s.strays) s.laid_strays
+    × StoredAllHold (document_of buffers) s.strays × AllByRecursion (IsOfKeptPart s.strays) s.laid_strays

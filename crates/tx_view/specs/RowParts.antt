@@ -8,7 +8,7 @@ use Rattle.tx_view_form.specs.Views.{UnitView, AreLines}
 use Rattle.tx_part_items.specs.ShownParts.{ShownPart, own_paragraphs}
 use Rattle.tx_bridge.specs.Entries.{outcome_of}
 use Rattle.tx_bridge.specs.PartsKept.{fresh_parts}
-use Rattle.tx_unit_layout.specs.LaidAts.{is_by_parts, parts_of}
+use Rattle.tx_unit_layout.specs.LaidAts.{is_by_parts, shown_parts_of}
 use Rattle.tx_view.specs.Costs.{entry_at}
 
 -- of each line of parts, the path of its part
@@ -19,15 +19,15 @@ pub data AreLineParts (width : ℕ) : List ShownPart → List (List ℕ) → Typ
       → AreLineParts width (p ∷ ps) (map (λ line. p.path) own ++ others)
 
 -- the parts by which a unit that is evaluated at this moment is laid out, if it is laid out by its parts
-abbrev pub parts_at : Moment → DocUnit → List ShownPart
-parts_at m u =
-    if is_by_parts (entry_at m u) then parts_of (attributes_of m.env) (entry_at m u) (fresh_parts m u) else []
+abbrev pub shown_parts_at : Moment → DocUnit → List ShownPart
+shown_parts_at m u =
+    if is_by_parts (entry_at m u) then shown_parts_of (attributes_of m.env) (entry_at m u) (fresh_parts m u) else []
 
 -- Of each row of a unit that shows so, the path of the part that shows it. Behind the rows of its parts stand those
 -- that it has besides, each with an empty path.
 pub record AreUnitRowParts (width : ℕ) (m : Moment) (u : DocUnit) (x : UnitView) (rows : List (List ℕ)) : Type 0 where
   pub of_parts : List (List ℕ)
-  pub are : AreLineParts width (parts_at m u) of_parts
+  pub are : AreLineParts width (shown_parts_at m u) of_parts
   pub others : ℕ
   pub is : rows ≡ of_parts ++ replicate others []
   pub as_many : length rows ≡ length x.lines

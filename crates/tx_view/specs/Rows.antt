@@ -23,9 +23,9 @@ pub record HasRow (xs : List Shown) (r : ℕ) (x : Shown) (k : ℕ) : Type 0 whe
   pub line : slice_get (lines_of (unit_views xs)) r ≡ slice_get (unit_view x).lines k
   pub part : slice_get (row_parts xs) r ≡ slice_get (unit_row_parts x) k
 
-abbrev pub IsRow : List Shown → ℕ → Option (ℕ × ℕ) → Type 0
-IsRow xs r None = (row_in (unit_views xs) r ≡ None) × (slice_get (lines_of (unit_views xs)) r ≡ None)
-IsRow xs r (Some p) = (p.0 < length xs) × ((d : Shown) → HasRow xs r (slice_index_or xs p.0 d) p.1)
+abbrev pub IsRowOfUnit : List Shown → ℕ → Option (ℕ × ℕ) → Type 0
+IsRowOfUnit xs r None = (row_in (unit_views xs) r ≡ None) × (slice_get (lines_of (unit_views xs)) r ≡ None)
+IsRowOfUnit xs r (Some p) = (p.0 < length xs) × ((d : Shown) → HasRow xs r (slice_index_or xs p.0 d) p.1)
 
 -- this unit has the error, under this number
 pub record HasError (xs : List Shown) (r : ℕ) (x : Shown) (k : ℕ) : Type 0 where

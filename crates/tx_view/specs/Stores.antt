@@ -18,7 +18,7 @@ use Rattle.tx_view.specs.Costs.{entry_at}
 -- Of each unit the trace that it came to last, the traces of its parts, the attributes for which it was laid out last,
 -- if it was, and those for which parts of it were. Of parts that stand in no unit, each with its path in the document,
 -- the traces, and the attributes for which they were laid out.
-pub record Stores : Type 0 where
+pub record ViewStores : Type 0 where
   pub kept : Kept
   pub parts : List KeptParts
   pub laid : List (Option Attrs)
@@ -38,7 +38,7 @@ laid_parts_from m (u ∷ us) =
     laid_ats (attributes_of m.env) (entry_at m u) (fresh_parts m u) ∷ laid_parts_from (behind m (outcome_of m u)) us
 
 -- what making a view of these units from nothing leaves
-abbrev pub fresh_stores : List DocUnit → Stores
+abbrev pub fresh_stores : List DocUnit → ViewStores
 fresh_stores us = record {
   kept = fresh_from beginning us;
   parts = fresh_parts_from beginning us;
@@ -49,38 +49,38 @@ fresh_stores us = record {
 }
 
 -- something is kept at the path
-abbrev pub IsKeptAt : KeptParts → LaidAt → Type 0
-IsKeptAt ks l = (trace : WideTrace) × (kept_at ks l.path ≡ Some trace)
+abbrev pub IsOfKeptPart : KeptParts → LaidAt → Type 0
+IsOfKeptPart ks l = (trace : WideTrace) × (kept_at ks l.path ≡ Some trace)
 
 -- what is laid out of parts of a unit is of parts that are kept
 abbrev pub AllLaidAreKept : List KeptParts → List (List LaidAt) → Type 0
 AllLaidAreKept [] [] = Unit {0}
 AllLaidAreKept [] (ls ∷ lss) = ⊥
 AllLaidAreKept (ks ∷ pss) [] = ⊥
-AllLaidAreKept (ks ∷ pss) (ls ∷ lss) = AllByRecursion (IsKeptAt ks) ls × AllLaidAreKept pss lss
+AllLaidAreKept (ks ∷ pss) (ls ∷ lss) = AllByRecursion (IsOfKeptPart ks) ls × AllLaidAreKept pss lss
 
 -- ---- what a refresh leaves that lacked memory
 
 -- of unit i trace and attributes are those that the other stores have
-pub record IsOf (stores other : Stores) (i : ℕ) : Type 0 where
+pub record HasUnitOf (stores other : ViewStores) (i : ℕ) : Type 0 where
   pub kept : slice_get stores.kept i ≡ slice_get other.kept i
   pub laid : slice_get stores.laid i ≡ slice_get other.laid i
 
 -- The units before number `done` have the traces of the fresh stores, and the others those of the old ones. A unit is
 -- laid out as in the old stores, and has their trace, or as in the fresh ones, and has theirs, or it isn't laid out.
 -- Of parts nothing is. What is kept of parts that stand in no unit is as in the old stores, or nothing.
-pub record IsPartlyFresh (old fresh new : Stores) : Type 0 where
+pub record IsPartlyFresh (old fresh new : ViewStores) : Type 0 where
   pub done : ℕ
   pub kept : new.kept ≡ take done fresh.kept ++ drop done old.kept
   pub parts : new.parts ≡ take done fresh.parts ++ drop done old.parts
-  pub laid : (i : ℕ) → IsOf new old i ⊎ ((slice_get new.laid i ≡ Some None) ⊎ IsOf new fresh i)
+  pub laid : (i : ℕ) → HasUnitOf new old i ⊎ ((slice_get new.laid i ≡ Some None) ⊎ HasUnitOf new fresh i)
   pub laid_parts : AllByRecursion (λ ls. ls ≡ []) new.laid_parts
   pub strays : (new.strays ≡ old.strays) ⊎ (new.strays ≡ [])
   pub laid_strays : new.laid_strays ≡ []
 
 -- ---- the code by which proofs tell them apart
 
-abbrev pub coded_Stores : Coded Stores
+abbrev pub coded_Stores : Coded ViewStores
 coded_Stores =
     code_by (List Entry × (List KeptParts × (List (Option Attrs) × (List (List LaidAt) × (KeptParts × List LaidAt)))))
     (coded× (coded_list coded_Entry)

@@ -28,9 +28,9 @@ abbrev pub error_counts : List UnitView → List ℕ
 error_counts xs = map (λ x. length x.errors) xs
 
 -- of lists with so many elements, the one in which an element of all stands, and its number there
-abbrev pub number_in : List ℕ → ℕ → Option (ℕ × ℕ)
-number_in [] k = None
-number_in (n ∷ ns) k = if nat_lt k n then Some (0, k) else option_map (λ p. (p.0 + 1, p.1)) (number_in ns (k - n))
+abbrev pub place_among : List ℕ → ℕ → Option (ℕ × ℕ)
+place_among [] k = None
+place_among (n ∷ ns) k = if nat_lt k n then Some (0, k) else option_map (λ p. (p.0 + 1, p.1)) (place_among ns (k - n))
 
 -- no path of a unit is that of another, or begins it
 abbrev pub AreAllApart : List UnitView → Type 0

@@ -23,7 +23,7 @@ use Rattle.tx_unit_layout.specs.LaidUnits.{AreLaidParts}
 use Rattle.tx_view.specs.Laid.{all_stores_in, AreLaid, HasShortPlaces}
 use Rattle.tx_view.specs.Lone.{IsLone, WerePages}
 use Rattle.tx_view.specs.Names.{Fresh}
-use Rattle.tx_view.specs.Stores.{Stores, coded_Stores}
+use Rattle.tx_view.specs.Stores.{ViewStores, coded_Stores}
 use Rattle.tx_unit_layout.specs.declared.shown.Shown.{Shown}
 use Rattle.tx_view.specs.RowParts.{AreRowParts}
 use Rattle.tx_view.specs.Rows.{row_parts}
@@ -40,15 +40,15 @@ pub record WholeView : Type 0 where
   pub fresh : Bool
   pub shown : WideView
   pub row_parts : List (List ℕ)
-  pub stores : Stores
+  pub stores : ViewStores
   pub work : ℕ
 
 -- what is shown of each unit, or was before the buffers changed
 abbrev pub all_of : Inside → List Shown
 all_of v = if v.fresh then v.units.items else v.hidden.items
 
-abbrev pub stores_of : Inside → Stores
-stores_of v = all_stores_in v.bridges (all_of v) v.strays
+abbrev pub view_stores_of : Inside → ViewStores
+view_stores_of v = all_stores_in v.bridges (all_of v) v.strays
 
 abbrev pub whole_of : Inside → WholeView
 whole_of v =
@@ -59,7 +59,7 @@ whole_of v =
       fresh = v.fresh;
       shown = record { units = unit_views v.units.items; pages = v.paged.pages.items };
       row_parts = row_parts v.units.items;
-      stores = stores_of v;
+      stores = view_stores_of v;
       work = v.work;
     }
 
@@ -74,7 +74,7 @@ pub record IsKept (v : Inside) : Type 0 where
   pub fresh : v.fresh ≡ true → IsView v.buffers.items v.width v.height (whole_of v).shown
   pub row_parts : v.fresh ≡ true
       → AreRowParts v.width beginning (units v.buffers.items) (whole_of v).shown.units (whole_of v).row_parts
-  pub kept : v.fresh ≡ true → stores_of v ≡ Fresh v.buffers.items
+  pub kept : v.fresh ≡ true → view_stores_of v ≡ Fresh v.buffers.items
   pub hidden : v.fresh ≡ false → v.units.items ≡ []
   pub of_buffers : units_of v.bridges.kept ≡ units v.buffers.items
   pub laid : AreLaid v.width v.bridges.kept v.bridges.parts (all_of v)
@@ -105,7 +105,7 @@ view_code = code_by (List UnitView × List Cut) (coded× (coded_list unit_code) 
     (λ v. (v.units, v.pages)) (λ p. record { units = p.0; pages = p.1 }) (λ _. refl)
 
 abbrev pub whole_code : Coded WholeView
-whole_code = code_by (List Buffer × (ℕ × (ℕ × (Bool × (WideView × (List (List ℕ) × (Stores × ℕ)))))))
+whole_code = code_by (List Buffer × (ℕ × (ℕ × (Bool × (WideView × (List (List ℕ) × (ViewStores × ℕ)))))))
     (coded× (coded_list one_buffer.the_row.coded)
     (coded× coded_ℕ
     (coded× coded_ℕ

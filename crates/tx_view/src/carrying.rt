@@ -18,7 +18,7 @@ ghost use Rattle.tx_unit_layout.specs.Views.{unit_view};
 ghost use Rattle.tx_view.specs.Exchanged.{IsNow, IsExchanged, stays_alone, exchanged_in, parts_after, strays_after};
 ghost use Rattle.tx_view.specs.Laid.{IsBlank, AreBlank, HaveArrived, placed_in, placed_beside, going, taking_shown};
 ghost use Rattle.tx_view.specs.Laid.{source_shown, moved};
-ghost use Rattle.tx_view.specs.Laid.{ArePutBy, left_with, StayBut, IsLeft, IsWay, IsTarget, IsFew, IsMoved, SetNoName};
+ghost use Rattle.tx_view.specs.Laid.{ArePutBy, left_with, StayBut, IsLeft, IsWay, IsTarget, IsFew, HasGone, SetNoName};
 ghost use Rattle.tx_view.specs.Laid.{WasShown, IsFormer, AreLaid};
 
 use crate::arriving::put_either;
@@ -243,7 +243,7 @@ pub(crate) fn move_shown(
     requires few { IsFew target }
     requires once { (i j k : ℕ) → slice_get bridges.now.sources j ≡ Some (Some i)
         → slice_get bridges.now.sources k ≡ Some (Some i) → j ≡ k }
-    ensures moved { IsMoved target bridges.now.sources (if fresh then shown.old.items else hidden.old.items)
+    ensures moved { HasGone target bridges.now.sources (if fresh then shown.old.items else hidden.old.items)
         hidden.new.items }
     ensures former { IfSome result
         (λ f. IsFormer target fresh (if fresh then shown.old.items else hidden.old.items) f) }

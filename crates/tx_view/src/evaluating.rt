@@ -11,7 +11,7 @@ ghost use Rattle.tx_bridge.specs.Reached.{reached_from};
 ghost use Rattle.tx_unit_layout.specs.Views.{unit_view, IsReadable};
 ghost use Rattle.tx_view.specs.Stores.{fresh_stores, IsPartlyFresh};
 ghost use Rattle.tx_view.specs.Laid.{AreLaid, WereLaid, unlaid, dropped, dropped_by, without_parts, without};
-ghost use Rattle.tx_view.specs.Laid.{stores_in, StayLaid};
+ghost use Rattle.tx_view.specs.Laid.{view_stores_in, StayLaid};
 ghost use Rattle.tx_view.specs.Lone.{IsAlone};
 
 use std::alloc::Global;
@@ -104,16 +104,17 @@ pub(crate) fn evaluate<L: Ledger>(
     requires as_many { length units.old ≡ length bridges.old.kept }
     ensures kept { OnOk result (bridges.new.kept ≡ fresh_from beginning (units_of bridges.old.kept)) }
     ensures parts { OnOk result (bridges.new.parts ≡ fresh_parts_from beginning (units_of bridges.old.kept)) }
-    ensures renewed { OnOk result (bridges.new.renewed ≡ reached_from beginning bridges.old.kept) }
+    ensures renewed { OnOk result (bridges.new.renewed ≡ reached_from beginning bridges.old.kept bridges.old.parts) }
     ensures shown { OnOk result (units.new ≡ without bridges.new.renewed units.old) }
     ensures charge { IfOk result (λ p. p.0 ≡ Charge bridges.old.kept bridges.old.parts) }
     ensures counted { IfOk result (λ p. steps.new ≡ steps.old + p.0) }
     ensures most { IfOk result (λ p. p.0 ≤ MOST_VIEW_STEPS) }
     ensures alone { IfOk result (λ p. p.1 ≡ true
         → IsAlone lone (length units.old) bridges.old.kept bridges.new.kept bridges.new.renewed) }
-    ensures left { OnOk result (StayLaid (stores_in bridges.old units.old) (stores_in bridges.new units.new)) }
-    ensures refused { OnErr result (IsPartlyFresh (stores_in bridges.old units.old)
-        (fresh_stores (units_of bridges.old.kept)) (stores_in bridges.new units.new)) }
+    ensures left { OnOk result
+        (StayLaid (view_stores_in bridges.old units.old) (view_stores_in bridges.new units.new)) }
+    ensures refused { OnErr result (IsPartlyFresh (view_stores_in bridges.old units.old)
+        (fresh_stores (units_of bridges.old.kept)) (view_stores_in bridges.new units.new)) }
     ensures units { units_of bridges.new.kept ≡ units_of bridges.old.kept }
     ensures laid { OnOk result ((width : ℕ) → AreLaid width bridges.old.kept bridges.old.parts units.old
         → WereLaid width bridges.new.kept bridges.new.parts bridges.new.part_flags units.new) }

@@ -12,7 +12,7 @@ ghost use Rattle.tx_view.specs.Units.{unit_views};
 ghost use Rattle.tx_unit_layout.specs.Views.{unit_view, IsReadable};
 ghost use Rattle.tx_view.specs.Stores.{attributes_from, laid_parts_from, fresh_stores, IsPartlyFresh};
 ghost use Rattle.tx_view.specs.Costs.{items_relaid_from};
-ghost use Rattle.tx_view.specs.Laid.{AreLaid, laid_in, laid_parts_in, dropped, without_parts, stores_in};
+ghost use Rattle.tx_view.specs.Laid.{AreLaid, laid_in, laid_parts_in, dropped, without_parts, view_stores_in};
 ghost use Rattle.tx_view.specs.Lone.{IsLone, KeepPages};
 
 use crate::evaluating::{evaluate, forget_all_parts};
@@ -50,8 +50,8 @@ fn lay_out_all<L: Ledger>(
     ensures work { IfOk result (λ n. n
         ≡ Charge bridges.old.kept bridges.old.parts + items_relaid_from beginning bridges.old.kept bridges.old.parts
         (laid_in units.old) (laid_parts_in units.old)) }
-    ensures refused { OnErr result (IsPartlyFresh (stores_in bridges.old units.old)
-        (fresh_stores (units_of bridges.old.kept)) (stores_in bridges.new (without_parts units.new))) }
+    ensures refused { OnErr result (IsPartlyFresh (view_stores_in bridges.old units.old)
+        (fresh_stores (units_of bridges.old.kept)) (view_stores_in bridges.new (without_parts units.new))) }
     ensures units { units_of bridges.new.kept ≡ units_of bridges.old.kept }
     ensures laid { OnOk result (AreLaid width bridges.new.kept bridges.new.parts units.new) }
     ensures left { OnErr result (AreLaid width bridges.new.kept bridges.new.parts (without_parts units.new)) }
@@ -94,8 +94,8 @@ fn lay_out_lone<L: Ledger>(
     ensures work { IfOk result (λ p. p.0
         ≡ Charge bridges.old.kept bridges.old.parts + items_relaid_from beginning bridges.old.kept bridges.old.parts
         (laid_in units.old) (laid_parts_in units.old)) }
-    ensures refused { OnErr result (IsPartlyFresh (stores_in bridges.old units.old)
-        (fresh_stores (units_of bridges.old.kept)) (stores_in bridges.new (without_parts units.new))) }
+    ensures refused { OnErr result (IsPartlyFresh (view_stores_in bridges.old units.old)
+        (fresh_stores (units_of bridges.old.kept)) (view_stores_in bridges.new (without_parts units.new))) }
     ensures units { units_of bridges.new.kept ≡ units_of bridges.old.kept }
     ensures laid { OnOk result (AreLaid width bridges.new.kept bridges.new.parts units.new) }
     ensures left { OnErr result (AreLaid width bridges.new.kept bridges.new.parts (without_parts units.new)) }
@@ -146,8 +146,8 @@ fn lay_out_by<L: Ledger>(
     ensures work { IfOk result (λ p. p.0
         ≡ Charge bridges.old.kept bridges.old.parts + items_relaid_from beginning bridges.old.kept bridges.old.parts
         (laid_in units.old) (laid_parts_in units.old)) }
-    ensures refused { OnErr result (IsPartlyFresh (stores_in bridges.old units.old)
-        (fresh_stores (units_of bridges.old.kept)) (stores_in bridges.new (without_parts units.new))) }
+    ensures refused { OnErr result (IsPartlyFresh (view_stores_in bridges.old units.old)
+        (fresh_stores (units_of bridges.old.kept)) (view_stores_in bridges.new (without_parts units.new))) }
     ensures units { units_of bridges.new.kept ≡ units_of bridges.old.kept }
     ensures laid { OnOk result (AreLaid width bridges.new.kept bridges.new.parts units.new) }
     ensures left { OnErr result (AreLaid width bridges.new.kept bridges.new.parts (without_parts units.new)) }
@@ -196,8 +196,8 @@ pub(crate) fn lay_out<L: Ledger>(
     ensures work { IfOk result (λ p. p.0
         ≡ Charge bridges.old.kept bridges.old.parts + items_relaid_from beginning bridges.old.kept bridges.old.parts
         (laid_in units.old) (laid_parts_in units.old)) }
-    ensures refused { OnErr result (IsPartlyFresh (stores_in bridges.old units.old)
-        (fresh_stores (units_of bridges.old.kept)) (stores_in bridges.new units.new)) }
+    ensures refused { OnErr result (IsPartlyFresh (view_stores_in bridges.old units.old)
+        (fresh_stores (units_of bridges.old.kept)) (view_stores_in bridges.new units.new)) }
     ensures units { units_of bridges.new.kept ≡ units_of bridges.old.kept }
     ensures laid { AreLaid width bridges.new.kept bridges.new.parts units.new }
     ensures strays { OnOk result (bridges.new.strays ≡ []) }

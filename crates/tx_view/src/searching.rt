@@ -2,10 +2,10 @@
 ghost use Rattle.std.specs.Prelude.{◌≡◌, ◌≤◌, ◌<◌, ◌^◌, ℕ, List, All, length, slice_index, IfOk};
 ghost use Rattle.tx_view_form.specs.Views.{lines_of};
 ghost use Rattle.tx_view_form.specs.Errors.{errors_of};
-ghost use Rattle.tx_view.specs.Units.{unit_views, sums_from, row_counts, error_counts, number_in};
+ghost use Rattle.tx_view.specs.Units.{unit_views, sums_from, row_counts, error_counts, place_among};
 ghost use Rattle.tx_view.specs.Units.{IsBelow};
 ghost use Rattle.tx_unit_layout.specs.Views.{unit_view};
-ghost use Rattle.tx_view.specs.Rows.{IsRow, IsError};
+ghost use Rattle.tx_view.specs.Rows.{IsRowOfUnit, IsError};
 
 use std::alloc::Global;
 use tx_base::Memory;
@@ -62,7 +62,7 @@ pub(crate) fn error_count(firsts: &[u32], units: &[Shown]) -> u32
 fn unit_of(firsts: &[u32], number: u32) -> Option<(usize, usize)>
     requires some { 1 ≤ length firsts.now }
     requires first { slice_index firsts.now 0 ≡ 0 }
-    ensures { (counts : List ℕ) → firsts.now ≡ sums_from 0 counts → result ≡ number_in counts number }
+    ensures { (counts : List ℕ) → firsts.now ≡ sums_from 0 counts → result ≡ place_among counts number }
 {
     let last = firsts.len() - 1;
     if number >= firsts[last] {
@@ -84,7 +84,7 @@ fn unit_of(firsts: &[u32], number: u32) -> Option<(usize, usize)>
 /// The number of the unit in which a row stands, and the number of the row there.
 pub(crate) fn row_in(firsts: &[u32], units: &[Shown], row: u32) -> Option<(usize, usize)>
     requires { firsts.now ≡ sums_from 0 (row_counts (unit_views units.now)) }
-    ensures { IsRow units.now row result }
+    ensures { IsRowOfUnit units.now row result }
 {
     unit_of(firsts, row)
 }

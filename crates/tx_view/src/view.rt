@@ -19,7 +19,7 @@ ghost use Rattle.tx_view.specs.Units.{unit_views};
 ghost use Rattle.tx_unit_layout.specs.Views.{IsReadable};
 ghost use Rattle.tx_part_layout.specs.LinesUnder.{line_under};
 ghost use Rattle.tx_view.specs.Units.{AreAllApart, IsBelow};
-ghost use Rattle.tx_view.specs.Laid.{AreLaid, stores_in};
+ghost use Rattle.tx_view.specs.Laid.{AreLaid, view_stores_in};
 ghost use Rattle.tx_view.specs.Lone.{IsLone, IsPaged, WerePages};
 ghost use Rattle.tx_view.specs.InUnits.{IsBase, drawn_under};
 ghost use Rattle.tx_view.specs.Marks.{spot_place};
@@ -142,12 +142,12 @@ fn made_anew<L: Ledger>(
     requires lone { IfSome lone (λ l. IsLone bridges.old.kept all.old l.unit l.attrs
         × WerePages size.1 (unit_views all.old) l) }
     ensures shown { OnOk result (AreShown size.0 beginning (units buffers.now) (unit_views all.new)) }
-    ensures stores { OnOk result (stores_in bridges.new all.new ≡ Fresh buffers.now) }
+    ensures stores { OnOk result (view_stores_in bridges.new all.new ≡ Fresh buffers.now) }
     ensures refused { OnErr result
-        (IsPartlyFresh (stores_in bridges.old all.old) (Fresh buffers.now) (stores_in bridges.new all.new)) }
+        (IsPartlyFresh (view_stores_in bridges.old all.old) (Fresh buffers.now) (view_stores_in bridges.new all.new)) }
     ensures paged { IfOk result (λ p. IsPaged size.1 (unit_views all.new) p.0) }
     ensures apart { OnOk result (AreAllApart (unit_views all.new)) }
-    ensures work { IfOk result (λ p. p.1 ≡ Bound (stores_in bridges.old all.old)) }
+    ensures work { IfOk result (λ p. p.1 ≡ Bound (view_stores_in bridges.old all.old)) }
     ensures counted { IfOk result (λ p. steps.new ≡ steps.old + p.1) }
     ensures of_buffers { units_of bridges.new.kept ≡ units buffers.now }
     ensures strays { OnOk result (bridges.new.strays ≡ []) }

@@ -12,7 +12,7 @@ use Rattle.tx_parts.specs.Shellers.{IsSheller}
 use Rattle.tx_parts.specs.Composed.{evaluates}
 use Rattle.tx_parts.specs.Layered.{evaluates_in}
 use Rattle.tx_parts.specs.Parts.{Part, part_cost, parts, parts_by, parts_in}
-use Rattle.tx_parts.specs.LayerCosts.{layer_costs_by, layer_costs_in}
+use Rattle.tx_parts.specs.LayerCosts.{Holder, layer_costs_by, layer_costs_in}
 use Rattle.tx_parts.proofs.Costing.{paid_most, in_most, parts_cost, all_cost, all_cost_in, closed_costs}
 use Rattle.tx_parts.proofs.Openers.{closed_by_nothing}
 use Rattle.tx_walk.specs.Held.{Stores, is_held, charge_of, charges}
@@ -39,8 +39,9 @@ module _ (guide : Guide) (sound : IsSheller guide.sheller) (k c : ℕ) (path : L
   -- with what layers cost
   pub charged_within : charged guide k c path t e ≤ paid c (evaluates k c t e)
   charged_within =
-      let all : sum_by part_cost (parts_by guide.sheller k c path t e) + layer_costs_by guide.sheller k c t e ≤
-      paid c (evaluates k c t e) = all_cost guide.sheller sound k c path t e in
+      let all : sum_by part_cost (parts_by guide.sheller k c path t e)
+      + layer_costs_by guide.holder guide.sheller k c t e ≤
+      paid c (evaluates k c t e) = all_cost guide.holder guide.sheller sound k c path t e in
       omega (arith, charges_less guide.stores (parts_by guide.sheller k c path t e), all)
 
   -- nor more than the steps that it has
@@ -55,8 +56,9 @@ module _ (guide : Guide) (sound : IsSheller guide.sheller) (k c : ℕ) (path : L
   pub charged_inside : (ls : List Layer) (i : ℕ) → charged_in guide k ls i c path t e ≤
       paid c (evaluates_in k ls i c t e)
   charged_inside ls i =
-      let all : sum_by part_cost (parts_in guide.sheller k ls i c path t e) + layer_costs_in guide.sheller k ls c t e ≤
-      paid c (evaluates_in k ls i c t e) = all_cost_in guide.sheller sound k ls i c path t e in
+      let all : sum_by part_cost (parts_in guide.sheller k ls i c path t e)
+      + layer_costs_in guide.holder guide.sheller k ls c t e ≤
+      paid c (evaluates_in k ls i c t e) = all_cost_in guide.holder guide.sheller sound k ls i c path t e in
       omega (arith, charges_less guide.stores (parts_in guide.sheller k ls i c path t e), all)
 
   pub none_inside : (ls : List Layer) (i : ℕ) → c ≡ 0 → charged_in guide k ls i c path t e ≡ 0
@@ -80,9 +82,10 @@ pub nothing_more : (before : ℕ) {n : ℕ} → n ≡ 0 → before ≡ before + 
 nothing_more before h = omega (arith, h)
 
 -- where nothing has a shell the parts alone are charged
-pub nothing_opened : (kept : Stores) (k c : ℕ) (path : List ℕ) (t : WideTree) (e : Before) →
-    charged (record { stores = kept; sheller = shells_by opens_nothing }) k c path t e ≡
+pub nothing_opened : (kept : Stores) (held : Holder) (k c : ℕ) (path : List ℕ) (t : WideTree) (e : Before) →
+    charged (record { stores = kept; sheller = shells_by opens_nothing; holder = held }) k c path t e ≡
     charges kept (parts k c path t e)
-nothing_opened kept k c path t e =
-    let none : layer_costs_by closed k c t e ≡ 0 = closed_costs k c t e in
-    ap (λ s. charged (record { stores = kept; sheller = s }) k c path t e) closed_by_nothing ∙ omega (arith, none)
+nothing_opened kept held k c path t e =
+    let none : layer_costs_by held closed k c t e ≡ 0 = closed_costs held k c t e in
+    ap (λ s. charged (record { stores = kept; sheller = s; holder = held }) k c path t e) closed_by_nothing
+    ∙ omega (arith, none)

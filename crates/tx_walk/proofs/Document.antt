@@ -23,8 +23,10 @@ use Rattle.tx_parts.specs.Composed.{alone, evaluates, SoFar, nothing_yet, childr
 use Rattle.tx_parts.specs.Parts.{parts_from, parts_by}
 use Rattle.tx_parts.proofs.Composing.{inner_are}
 use Rattle.tx_walk.specs.declared.part.Part.{Part as DonePart}
+use Rattle.tx_parts.specs.LayerCosts.{Holder, counts_from, layer_costs_by}
+use Rattle.tx_walk.specs.LayerTraces.{TreeTrace, AreKnownBy}
 use Rattle.tx_walk.specs.Guides.{Guide, charged, charged_from}
-use Rattle.tx_walk.proofs.Unshelled.{parts_are, charged_are}
+use Rattle.tx_walk.proofs.Unshelled.{parts_are, costs_are, charged_are}
 use Rattle.tx_walk.specs.Walked.{seen, seen_in}
 use Rattle.tx_walk.specs.Steps.{trace_under, IsBehind, IsAdded, below, document_at, FitsNode, Stage, ChildrenDone}
 use Rattle.tx_walk.specs.Steps.{ChildrenCome}
@@ -106,14 +108,21 @@ module _ (k c : ℕ) (path : List ℕ) (t : WideTree) (e : Before) (opens : open
       ap (λ n. charged guide n c path t e) (sym upper)
       ∙ charged_are guide c path t e (Document (children_of t)) unshelled opens (k - 1)
 
+  document_costs : (guide : Guide) → guide.sheller t e ≡ None → (held : Holder) →
+      layer_costs_by held guide.sheller k c t e ≡ counts_from (k - 1) (layer_costs_by held guide.sheller (k - 1))
+      (c - 1) 0 nothing_yet (children_of t) e
+  document_costs guide unshelled held =
+      ap (λ n. layer_costs_by held guide.sheller n c t e) (sym upper)
+      ∙ costs_are (record guide { holder = held }) c path t e (Document (children_of t)) unshelled opens (k - 1)
+
 module _ (guide : Guide) (k c : ℕ) (path : List ℕ) (t : WideTree) (opens : openness t ≡ Document (children_of t))
     (some : 0 < k) (left : 0 < c) (a b : SoFar) (names names1 : Before) (old new : List DonePart) (before after : ℕ)
-    (unshelled : guide.sheller t names ≡ None) where
+    (kept kept1 : List TreeTrace) (unshelled : guide.sheller t names ≡ None) where
   abbrev first : Stage
-  first = record { joined = a; names = names; done = map seen old; count = before }
+  first = record { joined = a; names = names; done = map seen old; count = before; layers = kept }
 
   abbrev last : Stage
-  last = record { joined = b; names = names1; done = map seen new; count = after }
+  last = record { joined = b; names = names1; done = map seen new; count = after; layers = kept1 }
 
   module _ (d : ChildrenDone guide (k - 1) (c - 1) path (children_of t) first last) where
     done_is : evaluates k c t names ≡ Some (document_trace d.so_far)
@@ -180,3 +189,12 @@ module _ (guide : Guide) (k c : ℕ) (path : List ℕ) (t : WideTree) (opens : o
       d.count ∙ ap (λ n. before + n) (sym (document_charged k c path t names opens some guide unshelled))
   comes_counted false d =
       d.count ∙ ap (λ n. before + n) (sym (document_charged k c path t names opens some guide unshelled))
+
+  pub comes_known : (went : Bool) → ChildrenCome guide (k - 1) (c - 1) path (children_of t) first last went →
+      AreKnownBy guide.sheller k c t names kept kept1 (if went then Some (document_at path b) else None)
+  comes_known true d =
+      record {
+        more = d.known.more;
+        nothing = λ held h. document_costs k c path t names opens some guide unshelled held ∙ d.known.nothing held h;
+      }
+  comes_known false d = tt

@@ -20,11 +20,12 @@ use Rattle.tx_exec_form.proofs.Tracing.{allowed}
 use Rattle.tx_parts.specs.Atop.{atop, env_atop, both_looks}
 use Rattle.tx_parts.specs.Composed.{alone, evaluates, SoFar, nothing_yet, with_child, children_from}
 use Rattle.tx_parts.specs.Parts.{Part, parts_from, parts_by}
-use Rattle.tx_parts.specs.LayerCosts.{counts_from, layer_costs_by}
+use Rattle.tx_parts.specs.LayerCosts.{Holder, HoldsMore, counts_from, layer_costs_by}
 use Rattle.tx_parts.proofs.PartRuns.{atop_twice}
 use Rattle.tx_walk.specs.declared.part.Part.{Part as DonePart}
 use Rattle.tx_walk.specs.Held.{charge_of, charges}
 use Rattle.tx_walk.specs.Guides.{Guide, charged, charged_from}
+use Rattle.tx_walk.specs.LayerTraces.{TreeTrace, holds_in, LayersKnown, AreKnownBy}
 use Rattle.tx_walk.specs.Walked.{seen, seen_in}
 use Rattle.tx_walk.specs.Steps.{trace_under, IsBehind, IsAdded, with_trace, IsJoined, below, Stage, ChildDone}
 use Rattle.tx_walk.specs.Steps.{ChildOver}
@@ -33,25 +34,26 @@ use Rattle.tx_walk.specs.Steps.{ChildComes, ChildrenDone, ChildrenOver}
 -- ---- one child
 
 module _ (guide : Guide) (k c : ℕ) (path : List ℕ) (i : ℕ) (t : WideTree) (a b : SoFar) (names names1 : Before)
-    (old new : List DonePart) (before after : ℕ) where
+    (old new : List DonePart) (before after : ℕ) (kept kept1 : List TreeTrace) where
   abbrev first : Stage
-  first = record { joined = a; names = names; done = map seen old; count = before }
+  first = record { joined = a; names = names; done = map seen old; count = before; layers = kept }
 
   abbrev last : Stage
-  last = record { joined = b; names = names1; done = map seen new; count = after }
+  last = record { joined = b; names = names1; done = map seen new; count = after; layers = kept1 }
 
   by_comes : (o : Option WideTrace) (went : Bool) (r : Option WideTrace) →
       evaluates k (c - a.cost) t names ≡ r → o ≡ option_map (trace_under (path ++ i ∷ [])) r →
       IsBehind names names1 o → IsAdded guide.stores (parts_by guide.sheller k (c - a.cost) (path ++ i ∷ []) t names)
       old new o →
       after ≡ before + charged guide k (c - a.cost) (path ++ i ∷ []) t names →
-      IsJoined a b o went → ChildComes guide k c path i t first last went
-  by_comes None true None q e behind is_added counted joined = let off : true ≡ false = joined in cc
-  by_comes None false None q e behind is_added counted joined = record { comes = q; count = counted }
-  by_comes None went (Some w) q e behind is_added counted joined = cc
-  by_comes (Some u) went None q e behind is_added counted joined = cc
-  by_comes (Some u) false (Some w) q e behind is_added counted joined = let off : false ≡ true = joined.0 in cc
-  by_comes (Some u) true (Some w) q e behind is_added counted joined =
+      AreKnownBy guide.sheller k (c - a.cost) t names kept kept1 o → IsJoined a b o went →
+      ChildComes guide k c path i t first last went
+  by_comes None true None q e behind is_added counted known joined = let off : true ≡ false = joined in cc
+  by_comes None false None q e behind is_added counted known joined = record { comes = q; count = counted }
+  by_comes None went (Some w) q e behind is_added counted known joined = cc
+  by_comes (Some u) went None q e behind is_added counted known joined = cc
+  by_comes (Some u) false (Some w) q e behind is_added counted known joined = let off : false ≡ true = joined.0 in cc
+  by_comes (Some u) true (Some w) q e behind is_added counted known joined =
       let same : u ≡ trace_under (path ++ i ∷ []) w = cc in
       let writes : u.writes ≡ w.writes = ap (λ (v : WideTrace). v.writes) same in
       record {
@@ -61,14 +63,15 @@ module _ (guide : Guide) (k c : ℕ) (path : List ℕ) (i : ℕ) (t : WideTree) 
         names = behind ∙ ap (λ m. env_atop m names) writes;
         done = is_added;
         count = counted;
+        known = known;
       }
 
   pub child_comes : (at : List ℕ) (rest : ℕ) (o : Option WideTrace) (went : Bool) → at ≡ path ++ i ∷ [] →
       rest ≡ c - a.cost → o ≡ option_map (trace_under at) (evaluates k rest t names) →
       IsBehind names names1 o → IsAdded guide.stores (parts_by guide.sheller k rest at t names) old new o →
-      after ≡ before + charged guide k rest at t names →
+      after ≡ before + charged guide k rest at t names → AreKnownBy guide.sheller k rest t names kept kept1 o →
       IsJoined a b o went → ChildComes guide k c path i t first last went
-  child_comes at rest o went is_at is_rest e behind is_added counted joined =
+  child_comes at rest o went is_at is_rest e behind is_added counted known joined =
       by_comes o went (evaluates k (c - a.cost) t names) refl
       (e ∙ ap (λ p. option_map (trace_under p) (evaluates k rest t names)) is_at
       ∙ ap (λ n. option_map (trace_under (path ++ i ∷ [])) (evaluates k n t names)) is_rest)
@@ -77,6 +80,7 @@ module _ (guide : Guide) (k c : ℕ) (path : List ℕ) (i : ℕ) (t : WideTree) 
       (subst (λ n. IsAdded guide.stores (parts_by guide.sheller k n at t names) old new o) is_rest is_added))
       (counted ∙ ap (λ n. before + charged guide k n at t names) is_rest
       ∙ ap (λ p. before + charged guide k (c - a.cost) p t names) is_at)
+      (subst (λ n. AreKnownBy guide.sheller k n t names kept kept1 o) is_rest known)
       joined
 
 -- ---- the loop
@@ -97,6 +101,10 @@ pub record Going (guide : Guide) (k c : ℕ) (path : List ℕ) (kids : List Wide
   pub count : s1.count ≡ s.count + spent
   pub charged_are : charged_from guide k c path 0 nothing_yet kids s.names ≡
       spent + charged_from guide k c path i so_far (drop i kids) s.names
+  pub more : HoldsMore (holds_in s.layers) (holds_in s1.layers)
+  pub layers_are : (held : Holder) → HoldsMore (holds_in s1.layers) held →
+      counts_from k (layer_costs_by held guide.sheller k) c 0 nothing_yet kids s.names ≡
+      counts_from k (layer_costs_by held guide.sheller k) c i so_far (drop i kids) s.names
   pub cost : so_far.cost ≤ c
   pub many : length so_far.values ≡ i
 
@@ -121,6 +129,8 @@ begins guide k c path kids s h =
       spent = 0;
       count = omega arith;
       charged_are = omega arith;
+      more = λ t e h. h;
+      layers_are = λ held h. refl;
       cost = omega arith;
       many = refl;
     }
@@ -132,7 +142,7 @@ module _ (guide : Guide) (k c : ℕ) (path : List ℕ) (i : ℕ) (a : SoFar) (t 
   parts_here = parts_by guide.sheller k (c - a.cost) (path ++ i ∷ []) t (env_atop a.writes e)
 
   abbrev costs_here : ℕ
-  costs_here = layer_costs_by guide.sheller k (c - a.cost) t (env_atop a.writes e)
+  costs_here = layer_costs_by guide.holder guide.sheller k (c - a.cost) t (env_atop a.writes e)
 
   abbrev parts_behind : Option WideTrace → List Part
   parts_behind o = option_map_or
@@ -140,7 +150,7 @@ module _ (guide : Guide) (k c : ℕ) (path : List ℕ) (i : ℕ) (a : SoFar) (t 
 
   abbrev costs_behind : Option WideTrace → ℕ
   costs_behind o = option_map_or
-      (λ trace. counts_from k (layer_costs_by guide.sheller k) c (i + 1) (with_child i a trace) ts e) o 0
+      (λ trace. counts_from k (layer_costs_by guide.holder guide.sheller k) c (i + 1) (with_child i a trace) ts e) o 0
 
   by_behind : (o : Option WideTrace) →
       charges guide.stores (parts_here ++ parts_behind o) + (costs_here + costs_behind o) ≡
@@ -181,6 +191,9 @@ below_more base i a w =
       cost = a.cost + w.cost;
       height = max a.height w.height;
     }) (values_more base i a.values w.value)
+
+none_more : (n : ℕ) → 0 + n ≡ n
+none_more n = omega arith
 
 stopped : (a b n m x y spent : ℕ) → a ≡ b + n → n ≡ m → b ≡ x + spent → y ≡ spent + (m + 0) → a ≡ x + y
 stopped a b n m x y spent h is so all = omega (arith, h, is, so, all)
@@ -228,6 +241,25 @@ module _ (guide : Guide) (k c : ℕ) (path : List ℕ) (kids : List WideTree) (s
   run_at =
       g.run ∙ ap (λ ts. children_from (evaluates k) c i g.so_far ts s.names) (drop_item kids i t there)
 
+  -- the child costs nothing of layers
+  layers_next : (held : Holder) (trace : WideTrace) →
+      evaluates k (c - g.so_far.cost) t (env_atop g.so_far.writes s.names) ≡ Some trace →
+      layer_costs_by held guide.sheller k (c - s1.joined.cost) t s1.names ≡ 0 →
+      counts_from k (layer_costs_by held guide.sheller k) c i g.so_far (drop i kids) s.names ≡
+      counts_from k (layer_costs_by held guide.sheller k) c (i + 1) (with_child i g.so_far trace) (drop (i + 1) kids)
+      s.names
+  layers_next held trace comes none =
+      let rest : ℕ = counts_from k (layer_costs_by held guide.sheller k) c (i + 1) (with_child i g.so_far trace)
+      (drop (i + 1) kids) s.names in
+      let here : layer_costs_by held guide.sheller k (c - g.so_far.cost) t (env_atop g.so_far.writes s.names) ≡ 0 =
+      sym (ap (λ n. layer_costs_by held guide.sheller k (c - n) t s1.names) cost_is
+      ∙ ap (layer_costs_by held guide.sheller k (c - g.so_far.cost) t) g.names) ∙ none in
+      ap (λ ts. counts_from k (layer_costs_by held guide.sheller k) c i g.so_far ts s.names) (drop_item kids i t there)
+      ∙ ap (λ o. layer_costs_by held guide.sheller k (c - g.so_far.cost) t (env_atop g.so_far.writes s.names)
+      + option_map_or (λ w. counts_from k (layer_costs_by held guide.sheller k) c (i + 1) (with_child i g.so_far w)
+      (drop (i + 1) kids) s.names) o 0) comes
+      ∙ ap (λ n. n + rest) here ∙ none_more rest
+
   pub next : (s2 : Stage) → ChildDone guide k c path i t s1 s2 → Going guide k c path kids s (i + 1) s2
   next s2 d =
       let comes : evaluates k (c - g.so_far.cost) t (env_atop g.so_far.writes s.names) ≡ Some d.trace =
@@ -265,6 +297,9 @@ module _ (guide : Guide) (k c : ℕ) (path : List ℕ) (kids : List WideTree) (s
         spent = g.spent + mine;
         count = d.count ∙ ap (λ n. s1.count + n) charged_at ∙ ap (λ n. n + mine) g.count ∙ omega arith;
         charged_are = g.charged_are ∙ ap (λ n. g.spent + n) (charged_so (Some d.trace) comes) ∙ omega arith;
+        more = λ u e h. d.known.more u e (g.more u e h);
+        layers_are = λ held h. g.layers_are held (λ u e p. h u e (d.known.more u e p))
+            ∙ layers_next held d.trace comes (d.known.nothing held h);
         cost = omega (arith, cost, bounds.0);
         many = length-append g.so_far.values (value_under (i ∷ []) d.trace.value ∷ []) ∙ ap (λ n. n + 1) many;
       }
@@ -298,5 +333,11 @@ ends guide k c path kids s i s1 g h =
       count = ended _ _ g.spent _ g.count (g.charged_are ∙ ap (λ ts. g.spent + charged_from guide k c path i g.so_far ts
           s.names)
           (drop_all i kids (omega (arith, h))));
+      known = record {
+        more = g.more;
+        nothing = λ held p. g.layers_are held p
+            ∙ ap (λ ts. counts_from k (layer_costs_by held guide.sheller k) c i g.so_far ts s.names)
+            (drop_all i kids (omega (arith, h)));
+      };
       many = g.many ∙ h;
     }

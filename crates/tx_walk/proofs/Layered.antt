@@ -18,7 +18,7 @@ use Rattle.tx_origin.proofs.Under.{under_nested, vals_under, plain_under}
 use Rattle.tx_exec_form.specs.Maps.{LookMap}
 use Rattle.tx_exec_form.specs.Runs.{Before}
 use Rattle.tx_exec_form.specs.Rows.{sizes}
-use Rattle.tx_exec_form.specs.Evaluated.{WideTrace}
+use Rattle.tx_exec_form.specs.Evaluated.{WideTrace, paid}
 use Rattle.tx_exec_form.proofs.Tracing.{allowed, small}
 use Rattle.tx_parts.specs.Atop.{atop, env_atop, past, both_looks}
 use Rattle.tx_parts.specs.Openness.{openness}
@@ -30,8 +30,8 @@ use Rattle.tx_parts.specs.Layered.{evaluates_bare, layer_pairs, as_sets, layer_s
 use Rattle.tx_parts.specs.Layered.{inside_layer, layer_trace, child_trace, layer_composed}
 use Rattle.tx_parts.specs.Layered.{evaluates_in, label_look, shell_trace, composed_opened}
 use Rattle.tx_parts.specs.Parts.{Part, parts_opened, parts_by, parts_in}
-use Rattle.tx_parts.specs.LayerCosts.{set_nodes, costs_inside, costs_opened, layer_costs_by, layer_costs_in}
-use Rattle.tx_parts.specs.LayerCosts.{layer_tree_costs}
+use Rattle.tx_parts.specs.LayerCosts.{Holder, HoldsMore, set_nodes, layer_tree_costs, layer_set_nodes, costs_inside}
+use Rattle.tx_parts.specs.LayerCosts.{costs_opened, layer_costs_by, layer_costs_in}
 use Rattle.tx_parts.proofs.Children.{FirstDone, first_done, children_within, bare_bounded}
 use Rattle.tx_parts.proofs.Opened.{layers_are, opened_is, in_bounded, layer_done, child_done, none_inside}
 use Rattle.tx_parts.proofs.Opened as opened
@@ -41,7 +41,9 @@ use Rattle.tx_walk.specs.Held.{charges}
 use Rattle.tx_walk.specs.Guides.{Guide, charged, charged_in}
 use Rattle.tx_walk.specs.Walked.{seen, seen_in}
 use Rattle.tx_walk.specs.Steps.{trace_under, IsBehind, IsAdded}
-use Rattle.tx_walk.specs.Layers.{pairs_of_settings, set_sizes, LayerStage, LayerDone, LayerOver}
+use Rattle.tx_walk.specs.LayerTraces.{TreeTrace, holds_in, AllHeldBy, AreKnownBy, AreKnownIn}
+use Rattle.tx_walk.specs.Layers.{pairs_of_settings, set_sizes, new_nodes, LayerStage, LayerDone, LayerOver}
+use Rattle.tx_walk.proofs.Known.{known_as, all_more}
 use Rattle.tx_walk.specs.Shelled.{step_more, look_before, IsCounted, layer_by, FitsLayer, BehindLayer}
 use Rattle.tx_walk.proofs.Charging.{none_inside as nothing_inside}
 use Rattle.tx_walk.proofs.LayerSteps.{traced_bare}
@@ -141,15 +143,23 @@ module _ (guide : Guide) (k c i : ℕ) (path : List ℕ) (t : WideTree) (e : Bef
     unfolding parts_in
     child_parts = ap (λ n. parts_in guide.sheller n [] i c path t e) (sym (up k some))
 
-    child_costs : layer_costs_in guide.sheller k [] c t e ≡ layer_costs_by guide.sheller (k - 1) (c - 1) t e
+    child_costs : (held : Holder) →
+        layer_costs_in held guide.sheller k [] c t e ≡ layer_costs_by held guide.sheller (k - 1) (c - 1) t e
     unfolding layer_costs_in
-    child_costs = ap (λ n. layer_costs_in guide.sheller n [] c t e) (sym (up k some))
+    child_costs held = ap (λ n. layer_costs_in held guide.sheller n [] c t e) (sym (up k some))
 
     pub child_charged : charged_in guide k [] i c path t e ≡ charged guide (k - 1) (c - 1) (path ++ i ∷ []) t e
     child_charged =
-        ap (λ (ps : List Part). charges guide.stores ps + layer_costs_in guide.sheller k [] c t e) child_parts
+        ap (λ (ps : List Part). charges guide.stores ps
+        + layer_costs_in guide.holder guide.sheller k [] c t e) child_parts
         ∙ ap (λ n. charges guide.stores (parts_by guide.sheller (k - 1) (c - 1) (path ++ i ∷ []) t e) + n)
-        child_costs
+        (child_costs guide.holder)
+
+    pub child_known : (old new : List TreeTrace) (o r : Option WideTrace) → r ≡ option_map step_more o →
+        AreKnownBy guide.sheller (k - 1) (c - 1) t e old new o → AreKnownIn guide.sheller k [] c t e old new r
+    child_known old new o r g h =
+        known_as (λ held. layer_costs_by held guide.sheller (k - 1) (c - 1) t e)
+        (λ held. layer_costs_in held guide.sheller k [] c t e) step_more old new o r child_costs g h
 
     module _ (below : List ℕ) (o : Option WideTrace) (is : below ≡ path ++ i ∷ [])
         (comes : o ≡ option_map (trace_under below) (evaluates (k - 1) (c - 1) t e)) where
@@ -205,18 +215,27 @@ module _ (guide : Guide) (k c : ℕ) (path : List ℕ) (t : WideTree) (shell : S
       ∙ ap (λ o. parts_opened o (k - 1) (parts_by guide.sheller (k - 1)) (parts_in guide.sheller (k - 1)) c path t e)
       opening_is
 
-  tag_costs : layer_costs_by guide.sheller k c t e ≡ layer_costs_in guide.sheller (k - 1) shell.layers (c - 1) u e
+  tag_costs : (held : Holder) → layer_costs_by held guide.sheller k c t e ≡
+      layer_costs_in held guide.sheller (k - 1) shell.layers (c - 1) u e
   unfolding layer_costs_by
-  tag_costs =
-      ap (λ n. layer_costs_by guide.sheller n c t e) (sym (up k some))
-      ∙ ap (λ o. costs_opened o (k - 1) (layer_costs_by guide.sheller (k - 1)) (layer_costs_in guide.sheller (k - 1))
-      c t e) opening_is
+  tag_costs held =
+      ap (λ n. layer_costs_by held guide.sheller n c t e) (sym (up k some))
+      ∙ ap (λ o. costs_opened o (k - 1) (layer_costs_by held guide.sheller (k - 1))
+      (layer_costs_in held guide.sheller (k - 1)) c t e) opening_is
+
+  pub tag_known : (looks : LookMap) (old new : List TreeTrace) (o r : Option WideTrace) →
+      r ≡ option_map (look_before looks) o →
+      AreKnownIn guide.sheller (k - 1) shell.layers (c - 1) u e old new o →
+      AreKnownBy guide.sheller k c t e old new r
+  tag_known looks old new o r g h =
+      known_as (λ held. layer_costs_in held guide.sheller (k - 1) shell.layers (c - 1) u e)
+      (λ held. layer_costs_by held guide.sheller k c t e) (look_before looks) old new o r tag_costs g h
 
   pub tag_charged : charged guide k c path t e ≡ charged_in guide (k - 1) shell.layers shell.inner (c - 1) path u e
   tag_charged =
-      ap (λ (ps : List Part). charges guide.stores ps + layer_costs_by guide.sheller k c t e) tag_parts
+      ap (λ (ps : List Part). charges guide.stores ps + layer_costs_by guide.holder guide.sheller k c t e) tag_parts
       ∙ ap (λ n. charges guide.stores (parts_in guide.sheller (k - 1) shell.layers shell.inner (c - 1) path u e) + n)
-      tag_costs
+      (tag_costs guide.holder)
 
   module _ (left : 0 < c) (o : Option WideTrace)
       (comes : o ≡ option_map (trace_under path) (evaluates_in (k - 1) shell.layers shell.inner (c - 1) u e)) where
@@ -376,8 +395,9 @@ low_in (suc k) ls i c t e h = absurd (omega (arith, h))
 -- ---- a layer
 
 -- what names and trees cost is allowed
-pub values_cost : (k c : ℕ) (l : Layer) (s s1 : LayerStage) → LayerDone k c l s s1 → s1.joined.cost ≤ c
-values_cost k c l s s1 d = (children_within k (evaluates_bare k) (bare_bounded k) c 0 nothing_yet
+pub values_cost : (held : Holder) (k c : ℕ) (l : Layer) (s s1 : LayerStage) → LayerDone held k c l s s1 →
+    s1.joined.cost ≤ c
+values_cost held k c l s s1 d = (children_within k (evaluates_bare k) (bare_bounded k) c 0 nothing_yet
     (in_turn l.names l.trees) s.names s1.joined (omega arith, omega arith) d.comes).0
 
 sizes_are : (ps : List (Name × WideTree)) → sizes (as_sets ps) ≡ set_sizes ps
@@ -396,7 +416,7 @@ overlaid_atop m ps =
 module _ (guide : Guide) (sound : IsSheller guide.sheller) (k c i : ℕ) (path : List ℕ) (l : Layer) (ls : List Layer)
     (t : WideTree) (s : LayerStage) (some : 0 < k) where
   -- where the names and trees are over
-  module _ (s1 : LayerStage) (d : LayerOver (k - 1) (c - 1) l s s1) where
+  module _ (s1 : LayerStage) (d : LayerOver guide.holder (k - 1) (c - 1) l s s1) where
     pub values_over : evaluates_in k (l ∷ ls) i c t s.names ≡ None
     values_over =
         ap (λ n. evaluates_in n (l ∷ ls) i c t s.names) (sym (up k some))
@@ -410,23 +430,25 @@ module _ (guide : Guide) (sound : IsSheller guide.sheller) (k c i : ℕ) (path :
         ∙ ap (λ o. option_map_or (λ a. parts_in guide.sheller (k - 1) ls i (c - layer_cost l.names a) path t
         (inside_layer l.names a s.names)) o []) d.comes
 
-    over_costs : layer_costs_in guide.sheller k (l ∷ ls) c t s.names ≡ layer_tree_costs (k - 1) l c s.names + 0
+    over_costs : layer_costs_in guide.holder guide.sheller k (l ∷ ls) c t s.names ≡
+        layer_tree_costs guide.holder (k - 1) l c s.names + 0
     unfolding layer_costs_in
     over_costs =
-        ap (λ n. layer_costs_in guide.sheller n (l ∷ ls) c t s.names) (sym (up k some))
-        ∙ ap (λ o. layer_tree_costs (k - 1) l c s.names
-        + option_map_or (λ a. costs_inside l.names a (layer_costs_in guide.sheller (k - 1) ls) c t s.names) o 0)
+        ap (λ n. layer_costs_in guide.holder guide.sheller n (l ∷ ls) c t s.names) (sym (up k some))
+        ∙ ap (λ o. layer_tree_costs guide.holder (k - 1) l c s.names
+        + option_map_or (λ a. costs_inside guide.holder (k - 1) l a
+        (layer_costs_in guide.holder guide.sheller (k - 1) ls) c t s.names) o 0)
         d.comes
 
     pub over_counted : s1.count ≡ s.count + charged_in guide k (l ∷ ls) i c path t s.names
     over_counted =
-        let count : s1.count ≡ s.count + layer_tree_costs (k - 1) l c s.names = d.count in
+        let count : s1.count ≡ s.count + layer_tree_costs guide.holder (k - 1) l c s.names = d.count in
         let parts : charges guide.stores (parts_in guide.sheller k (l ∷ ls) i c path t s.names) ≡ 0 =
         ap (charges guide.stores) over_parts in
         omega (arith, count, parts, over_costs)
 
   -- where they are done
-  module _ (s1 : LayerStage) (d : LayerDone (k - 1) (c - 1) l s s1) where
+  module _ (s1 : LayerStage) (d : LayerDone guide.holder (k - 1) (c - 1) l s s1) where
     abbrev a : SoFar
     a = s1.joined
 
@@ -451,13 +473,14 @@ module _ (guide : Guide) (sound : IsSheller guide.sheller) (k c i : ℕ) (path :
         ∙ ap (λ o. option_map_or (λ x. parts_in guide.sheller (k - 1) ls i (c - layer_cost l.names x) path t
         (inside_layer l.names x s.names)) o []) d.comes
 
-    layer_costs : layer_costs_in guide.sheller k (l ∷ ls) c t s.names ≡ layer_tree_costs (k - 1) l c s.names
-        + costs_inside l.names a (layer_costs_in guide.sheller (k - 1) ls) c t s.names
+    layer_costs : (held : Holder) → layer_costs_in held guide.sheller k (l ∷ ls) c t s.names ≡
+        layer_tree_costs held (k - 1) l c s.names
+        + costs_inside held (k - 1) l a (layer_costs_in held guide.sheller (k - 1) ls) c t s.names
     unfolding layer_costs_in
-    layer_costs =
-        ap (λ n. layer_costs_in guide.sheller n (l ∷ ls) c t s.names) (sym (up k some))
-        ∙ ap (λ o. layer_tree_costs (k - 1) l c s.names
-        + option_map_or (λ x. costs_inside l.names x (layer_costs_in guide.sheller (k - 1) ls) c t s.names) o 0)
+    layer_costs held =
+        ap (λ n. layer_costs_in held guide.sheller n (l ∷ ls) c t s.names) (sym (up k some))
+        ∙ ap (λ o. layer_tree_costs held (k - 1) l c s.names + option_map_or
+        (λ x. costs_inside held (k - 1) l x (layer_costs_in held guide.sheller (k - 1) ls) c t s.names) o 0)
         d.comes
 
     -- the layer costs too much
@@ -473,7 +496,7 @@ module _ (guide : Guide) (sound : IsSheller guide.sheller) (k c i : ℕ) (path :
 
       pub dear_counted : s1.count ≡ s.count + charged_in guide k (l ∷ ls) i c path t s.names
       dear_counted =
-          let count : s1.count ≡ s.count + layer_tree_costs (k - 1) l c s.names = d.count in
+          let count : s1.count ≡ s.count + layer_tree_costs guide.holder (k - 1) l c s.names = d.count in
           let same : charges guide.stores (parts_in guide.sheller k (l ∷ ls) i c path t s.names) ≡
           charges guide.stores (parts_in guide.sheller (k - 1) ls i (c - layer_cost l.names a) path t
           (inside_layer l.names a s.names)) = ap (charges guide.stores) layer_parts in
@@ -481,10 +504,11 @@ module _ (guide : Guide) (sound : IsSheller guide.sheller) (k c i : ℕ) (path :
           (inside_layer l.names a s.names) ≡ 0 =
           nothing_inside guide sound (k - 1) (c - layer_cost l.names a) path t (inside_layer l.names a s.names) ls i
           (omega (arith, dear, cost_is)) in
-          let costs : layer_costs_in guide.sheller k (l ∷ ls) c t s.names ≡
-          layer_tree_costs (k - 1) l c s.names + 0 =
-          layer_costs ∙ ap (λ b. layer_tree_costs (k - 1) l c s.names
-          + (if b then set_nodes (layer_pairs l.names a.values) + layer_costs_in guide.sheller (k - 1) ls
+          let costs : layer_costs_in guide.holder guide.sheller k (l ∷ ls) c t s.names ≡
+          layer_tree_costs guide.holder (k - 1) l c s.names + 0 =
+          layer_costs guide.holder ∙ ap (λ b. layer_tree_costs guide.holder (k - 1) l c s.names
+          + (if b then layer_set_nodes guide.holder (k - 1) l c s.names
+          + layer_costs_in guide.holder guide.sheller (k - 1) ls
           (c - layer_cost l.names a) t (inside_layer l.names a s.names) else 0)) dear_test in
           omega (arith, count, same, gone, costs)
 
@@ -627,24 +651,49 @@ module _ (guide : Guide) (sound : IsSheller guide.sheller) (k c i : ℕ) (path :
           ∙ ap (parts_in guide.sheller (k - 1) ls i (c - layer_cost l.names a) path t) names_so
           ∙ sym layer_parts
 
-      pub inside_counted : (between after : ℕ) → between ≡ s1.count + set_nodes (pairs_of_settings s1.settings) →
+      inner_costs : (held : Holder) →
+          layer_costs_in held guide.sheller (k - 1) ls rest t (get (overlaid m pairs)) ≡
+          layer_costs_in held guide.sheller (k - 1) ls (c - layer_cost l.names a) t (inside_layer l.names a s.names)
+      inner_costs held =
+          ap (λ x. layer_costs_in held guide.sheller (k - 1) ls x t (get (overlaid m pairs))) rest_so
+          ∙ ap (layer_costs_in held guide.sheller (k - 1) ls (c - layer_cost l.names a) t) names_so
+
+      costs_allowed : (held : Holder) → layer_costs_in held guide.sheller k (l ∷ ls) c t s.names ≡
+          layer_tree_costs held (k - 1) l c s.names + (layer_set_nodes held (k - 1) l c s.names
+          + layer_costs_in held guide.sheller (k - 1) ls (c - layer_cost l.names a) t (inside_layer l.names a s.names))
+      costs_allowed held =
+          layer_costs held ∙ ap (λ b. layer_tree_costs held (k - 1) l c s.names
+          + (if b then layer_set_nodes held (k - 1) l c s.names + layer_costs_in held guide.sheller (k - 1) ls
+          (c - layer_cost l.names a) t (inside_layer l.names a s.names) else 0)) low_test
+
+      pub inside_counted : (between after : ℕ) → between ≡ s1.count + new_nodes s1.settings →
           after ≡ between + charged_in guide (k - 1) ls i rest path t (get (overlaid m pairs)) →
           after ≡ s.count + charged_in guide k (l ∷ ls) i c path t s.names
       inside_counted between after h g =
-          let count : s1.count ≡ s.count + layer_tree_costs (k - 1) l c s.names = d.count in
-          let nodes : set_nodes (pairs_of_settings s1.settings) ≡ set_nodes (layer_pairs l.names a.values) =
-          ap set_nodes d.settings in
+          let count : s1.count ≡ s.count + layer_tree_costs guide.holder (k - 1) l c s.names = d.count in
+          let nodes : new_nodes s1.settings ≡ layer_set_nodes guide.holder (k - 1) l c s.names = d.nodes in
           let parts : charges guide.stores (parts_in guide.sheller (k - 1) ls i rest path t (get (overlaid m pairs))) ≡
           charges guide.stores (parts_in guide.sheller k (l ∷ ls) i c path t s.names) =
           ap (charges guide.stores) inside_parts in
-          let inner : layer_costs_in guide.sheller (k - 1) ls rest t (get (overlaid m pairs)) ≡
-          layer_costs_in guide.sheller (k - 1) ls (c - layer_cost l.names a) t (inside_layer l.names a s.names) =
-          ap (λ x. layer_costs_in guide.sheller (k - 1) ls x t (get (overlaid m pairs))) rest_so
-          ∙ ap (layer_costs_in guide.sheller (k - 1) ls (c - layer_cost l.names a) t) names_so in
-          let costs : layer_costs_in guide.sheller k (l ∷ ls) c t s.names ≡ layer_tree_costs (k - 1) l c s.names
-          + (set_nodes (layer_pairs l.names a.values) + layer_costs_in guide.sheller (k - 1) ls
-          (c - layer_cost l.names a) t (inside_layer l.names a s.names)) =
-          layer_costs ∙ ap (λ b. layer_tree_costs (k - 1) l c s.names
-          + (if b then set_nodes (layer_pairs l.names a.values) + layer_costs_in guide.sheller (k - 1) ls
-          (c - layer_cost l.names a) t (inside_layer l.names a s.names) else 0)) low_test in
-          omega (arith, count, nodes, parts, inner, costs, h, g)
+          omega (arith, count, nodes, parts, inner_costs guide.holder, costs_allowed guide.holder, h, g)
+
+      -- where what holds the layer's trees was kept
+      pub inside_known : (old mid new : List TreeTrace) (o r : Option WideTrace) →
+          HoldsMore (holds_in old) (holds_in mid) → AllHeldBy (holds_in mid) s1.settings →
+          r ≡ option_map (layer_by (overlaid empty pairs) a n) o →
+          AreKnownIn guide.sheller (k - 1) ls rest t (get (overlaid m pairs)) mid new o →
+          AreKnownIn guide.sheller k (l ∷ ls) c t s.names old new r
+      inside_known old mid new o None more all g h = tt
+      inside_known old mid new None (Some w) more all g h = cc
+      inside_known old mid new (Some u) (Some w) more all g h =
+          record {
+            more = λ v e p. h.more v e (more v e p);
+            nothing = λ x p.
+                let held : AllHeldBy x s1.settings =
+                all_more (holds_in mid) x (λ v e q. p v e (h.more v e q)) s1.settings all in
+                let trees : layer_tree_costs x (k - 1) l c s.names ≡ 0 = d.known x paid held in
+                let nodes : layer_set_nodes x (k - 1) l c s.names ≡ 0 = d.known x set_nodes held in
+                let inner : layer_costs_in x guide.sheller (k - 1) ls rest t (get (overlaid m pairs)) ≡ 0 =
+                h.nothing x p in
+                omega (arith, trees, nodes, inner, inner_costs x, costs_allowed x);
+          }

@@ -4,6 +4,8 @@ pub mod Joining
 pub mod Once
 pub mod Agreed
 pub mod Found
+pub mod Known
+pub mod Listing
 pub mod Unshelled
 pub mod Settled
 pub mod Charging

@@ -16,12 +16,15 @@ use Rattle.tx_exec.specs.Outcomes.{wide_trace}
 use Rattle.tx_parts.specs.Openness.{Shut, openness}
 use Rattle.tx_parts.specs.Composed.{alone, evaluates}
 use Rattle.tx_parts.specs.Parts.{Part, parts_by}
+use Rattle.tx_parts.specs.LayerCosts.{layer_costs_by}
 use Rattle.tx_parts.proofs.PartRuns.{none_allowed}
 use Rattle.tx_walk.specs.declared.part.Part.{Part as DonePart}
 use Rattle.tx_walk.specs.Held.{Store, Stores, fits, charge_of, charges, IsSound, AreSound}
 use Rattle.tx_walk.specs.Held as held
 use Rattle.tx_walk.specs.Guides.{Guide, charged}
-use Rattle.tx_walk.proofs.Unshelled.{parts_are, charged_are}
+use Rattle.tx_walk.specs.LayerTraces.{TreeTrace, AreKnownBy}
+use Rattle.tx_walk.proofs.Known.{known_nothing}
+use Rattle.tx_walk.proofs.Unshelled.{parts_are, costs_are, charged_are}
 use Rattle.tx_walk.specs.Finding.{IsHeldBy, IsHeldIn, IsUnheld}
 use Rattle.tx_walk.proofs.Agreed.{agrees_is}
 use Rattle.tx_walk.specs.Walked.{seen, seen_in}
@@ -160,6 +163,15 @@ pub shut_charged : (guide : Guide) (k c : ℕ) (path : List ℕ) (t : WideTree) 
     charged guide k c path t e ≡ charges guide.stores (one_part k c path t e ∷ []) + 0
 shut_charged guide zero c path t e unshelled h some = absurd (omega (arith, some))
 shut_charged guide (suc k) c path t e unshelled h some = charged_are guide c path t e Shut unshelled h k
+
+-- it costs nothing of layers
+pub shut_known : (guide : Guide) (k c : ℕ) (t : WideTree) (e : Before) → guide.sheller t e ≡ None →
+    openness t ≡ Shut → 0 < k → (old new : List TreeTrace) (o : Option WideTrace) → new ≡ old →
+    AreKnownBy guide.sheller k c t e old new o
+shut_known guide zero c t e unshelled h some old new o same = absurd (omega (arith, some))
+shut_known guide (suc k) c t e unshelled h some old new o same =
+    known_nothing (λ held. layer_costs_by held guide.sheller (suc k) c t e) old new o same
+    (λ held. costs_are (record guide { holder = held }) c [] t e Shut unshelled h k)
 
 plus_none : (n : ℕ) → n + 0 ≡ n
 plus_none n = omega arith

@@ -21,15 +21,18 @@ module _ (guide : Guide) (c : ℕ) (path : List ℕ) (t : WideTree) (e : Before)
   parts_are j =
       ap (λ x. parts_opened x j (parts_by guide.sheller j) (parts_in guide.sheller j) c path t e) opening_is
 
-  costs_are : (j : ℕ) →
-      layer_costs_by guide.sheller (suc j) c t e ≡ counts_as o j (layer_costs_by guide.sheller j) c t e
+  pub costs_are : (j : ℕ) →
+      layer_costs_by guide.holder guide.sheller (suc j) c t e ≡
+      counts_as o j (layer_costs_by guide.holder guide.sheller j) c t e
   unfolding layer_costs_by
   costs_are j =
-      ap (λ x. costs_opened x j (layer_costs_by guide.sheller j) (layer_costs_in guide.sheller j) c t e) opening_is
+      ap (λ x. costs_opened x j (layer_costs_by guide.holder guide.sheller j)
+      (layer_costs_in guide.holder guide.sheller j) c t e) opening_is
 
   pub charged_are : (j : ℕ) → charged guide (suc j) c path t e ≡
       charges guide.stores (parts_as o j (parts_by guide.sheller j) c path t e)
-      + counts_as o j (layer_costs_by guide.sheller j) c t e
+      + counts_as o j (layer_costs_by guide.holder guide.sheller j) c t e
   charged_are j =
-      ap (λ (ps : List Part). charges guide.stores ps + layer_costs_by guide.sheller (suc j) c t e) (parts_are j)
+      ap (λ (ps : List Part). charges guide.stores ps
+      + layer_costs_by guide.holder guide.sheller (suc j) c t e) (parts_are j)
       ∙ ap (λ n. charges guide.stores (parts_as o j (parts_by guide.sheller j) c path t e) + n) (costs_are j)

@@ -32,8 +32,11 @@ use Rattle.tx_parts.proofs.Maps.{get_atop, atop_nothing, atop_set}
 use Rattle.tx_parts.proofs.Composing.{inner_are}
 use Rattle.tx_walk.specs.declared.part.Part.{Part as DonePart}
 use Rattle.tx_walk.specs.declared.settings.Settings.{Settings}
+use Rattle.tx_parts.specs.LayerCosts.{Holder, layer_costs_by}
+use Rattle.tx_walk.specs.LayerTraces.{TreeTrace, AreKnownBy}
+use Rattle.tx_walk.proofs.Known.{known_as}
 use Rattle.tx_walk.specs.Guides.{Guide, charged}
-use Rattle.tx_walk.proofs.Unshelled.{parts_are, charged_are}
+use Rattle.tx_walk.proofs.Unshelled.{parts_are, costs_are, charged_are}
 use Rattle.tx_walk.specs.Walked.{seen, seen_in}
 use Rattle.tx_walk.specs.Steps.{trace_under, IsAdded}
 use Rattle.tx_walk.specs.Descent.{pairs_of, AreSettings}
@@ -206,6 +209,13 @@ module _ (k c : ℕ) (path : List ℕ) (t : WideTree) (ps : TextSettings) (b : W
       ap (λ n. charged guide n c path t e) (sym upper)
       ∙ charged_are guide c path t e (With ps b) unshelled opens (k - 1)
 
+  with_costs : (guide : Guide) → guide.sheller t e ≡ None → (held : Holder) →
+      layer_costs_by held guide.sheller k c t e ≡
+      layer_costs_by held guide.sheller (k - 1) (c - (1 + settings_cost ps)) b (env_atop (set_by ps) e)
+  with_costs guide unshelled held =
+      ap (λ n. layer_costs_by held guide.sheller n c t e) (sym upper)
+      ∙ costs_are (record guide { holder = held }) c path t e (With ps b) unshelled opens (k - 1)
+
 -- where no step is left for the last child nothing is charged
 pub dear_charged : (guide : Guide) → IsSheller guide.sheller → (k c : ℕ) (path : List ℕ) (t : WideTree)
     (ps : TextSettings) (b : WideTree) (e : Before) → guide.sheller t e ≡ None → openness t ≡ With ps b → 0 < k →
@@ -307,6 +317,21 @@ module _ (guide : Guide) (k c : ℕ) (path : List ℕ) (t : WideTree) (ps : Text
       after ≡ before + charged guide (k - 1) rest (path ++ i ∷ []) b e1 →
       after ≡ before + charged guide k c path t e
   scope_counted before after h = h ∙ ap (λ n. before + n) charged_moved
+
+  costs_moved : (held : Holder) → layer_costs_by held guide.sheller k c t e ≡
+      layer_costs_by held guide.sheller (k - 1) rest b e1
+  costs_moved held =
+      with_costs k c path t ps b e opens some guide unshelled held
+      ∙ ap (layer_costs_by held guide.sheller (k - 1) (c - (1 + settings_cost ps)) b) (sym is_e)
+      ∙ ap (λ n. layer_costs_by held guide.sheller (k - 1) n b e1) (sym is_rest)
+
+  pub scope_known : (old new : List TreeTrace) →
+      r ≡ option_map (with_at path (overlaid empty s.pairs.items) s.values.items s.cost) o →
+      AreKnownBy guide.sheller (k - 1) rest b e1 old new o → AreKnownBy guide.sheller k c t e old new r
+  scope_known old new g h =
+      known_as (λ held. layer_costs_by held guide.sheller (k - 1) rest b e1)
+      (λ held. layer_costs_by held guide.sheller k c t e)
+      (with_at path (overlaid empty s.pairs.items) s.values.items s.cost) old new o r costs_moved g h
 
 -- ---- as the walk goes
 
@@ -420,3 +445,11 @@ module _ (k c : ℕ) (path : List ℕ) (t : WideTree) (s : Settings) (sc : IsSco
     closed_counted before after h =
         scope_counted guide k c path t sc.texts u (get m) (get (overlaid m pairs)) opens_so some left_so s sc.are
         rest i inside_so rest_so last_is o r unshelled before after h
+
+    pub closed_known : (old new : List TreeTrace) →
+        r ≡ option_map (with_at path (overlaid empty s.pairs.items) s.values.items s.cost) o →
+        AreKnownBy guide.sheller (k - 1) rest u (get (overlaid m pairs)) old new o →
+        AreKnownBy guide.sheller k c t (get m) old new r
+    closed_known old new g h =
+        scope_known guide k c path t sc.texts u (get m) (get (overlaid m pairs)) opens_so some left_so s sc.are
+        rest i inside_so rest_so last_is o r unshelled old new g h

@@ -2,6 +2,7 @@ pub mod SameTrees
 pub mod Held
 pub mod Walked
 pub mod Finding
+pub mod LayerTraces
 pub mod Prior
 pub mod Shells
 pub mod Guides

@@ -17,9 +17,11 @@ use Rattle.tx_exec.specs.States.{before_of}
 use Rattle.tx_parts.specs.Atop.{atop, env_atop, both_looks}
 use Rattle.tx_parts.specs.Composed.{evaluates, SoFar, nothing_yet, children_from}
 use Rattle.tx_parts.specs.Parts.{Part, parts_by, parts_from}
+use Rattle.tx_parts.specs.LayerCosts.{counts_from, layer_costs_by}
 use Rattle.tx_walk.specs.declared.part.Part.{Part as DonePart}
 use Rattle.tx_walk.specs.declared.joined.Joined.{Joined}
 use Rattle.tx_walk.specs.Held.{Stores}
+use Rattle.tx_walk.specs.LayerTraces.{TreeTrace, LayersKnown}
 use Rattle.tx_walk.specs.Guides.{Guide, charged, charged_from}
 use Rattle.tx_walk.specs.Walked.{IsTidy, IsPlaced, Seen, seen, seen_in}
 
@@ -121,16 +123,18 @@ pub record FitsNode (a : SoFar) : Type 0 where
 abbrev pub below : List ℕ → SoFar → SoFar
 below base a = record a { values = map (value_under base) a.values }
 
--- behind some children: what they came to, what names have, the parts that were gone through, and the steps counted
+-- behind some children: what they came to, what names have, the parts that were gone through, the steps counted, and
+-- what trees of layers came to
 pub record Stage : Type 0 where
   pub joined : SoFar
   pub names : Before
   pub done : List Seen
   pub count : ℕ
+  pub layers : List TreeTrace
 
-abbrev pub stage_of : Joined → Environment → List DonePart → ℕ → Stage
-stage_of j env done count =
-    record { joined = so_far_of j; names = before_of env; done = map seen done; count = count }
+abbrev pub stage_of : Joined → Environment → List DonePart → ℕ → List TreeTrace → Stage
+stage_of j env done count layers =
+    record { joined = so_far_of j; names = before_of env; done = map seen done; count = count; layers = layers }
 
 -- the child of number i is done
 pub record ChildDone (guide : Guide) (k c : ℕ) (path : List ℕ) (i : ℕ) (t : WideTree) (s s1 : Stage) : Type 0 where
@@ -141,6 +145,8 @@ pub record ChildDone (guide : Guide) (k c : ℕ) (path : List ℕ) (i : ℕ) (t 
   pub done : s1.done ≡ s.done ++ map (seen_in guide.stores)
       (parts_by guide.sheller k (c - s.joined.cost) (path ++ i ∷ []) t s.names)
   pub count : s1.count ≡ s.count + charged guide k (c - s.joined.cost) (path ++ i ∷ []) t s.names
+  pub known : LayersKnown (λ held. layer_costs_by held guide.sheller k (c - s.joined.cost) t s.names)
+      s.layers s1.layers
 
 -- it is over
 pub record ChildOver (guide : Guide) (k c : ℕ) (path : List ℕ) (i : ℕ) (t : WideTree) (s s1 : Stage) : Type 0 where
@@ -161,6 +167,8 @@ pub record ChildrenDone (guide : Guide) (k c : ℕ) (path : List ℕ) (kids : Li
     pub done : s1.done ≡ s.done ++ map (seen_in guide.stores)
         (parts_from k (parts_by guide.sheller k) c path 0 nothing_yet kids s.names)
     pub count : s1.count ≡ s.count + charged_from guide k c path 0 nothing_yet kids s.names
+    pub known : LayersKnown (λ held. counts_from k (layer_costs_by held guide.sheller k) c 0 nothing_yet kids s.names)
+        s.layers s1.layers
     pub many : length so_far.values ≡ length kids
 
 -- one of them is over

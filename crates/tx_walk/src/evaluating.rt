@@ -93,6 +93,7 @@ pub(crate) fn spend_on<L: Ledger>(
     ensures exact { IfOk result
         (λ o. wide_outcome o ≡ evaluated_in levels left (record { tree = t.now; at = at }) (before_of env.old)) }
     ensures counted { IfOk result (λ o. steps.new ≡ steps.old + paid left (wide_outcome o)) }
+    ensures layers { progress.new.layers ≡ progress.old.layers }
     ensures spent { OnOk result (RisesAlike steps.old progress.old.spent steps.new progress.new.spent) }
     ensures names_once { IfOk result NamesOnce }
     ensures env { env.new ≡ env.old }

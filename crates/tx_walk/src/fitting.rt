@@ -1,5 +1,5 @@
 // Whether what is kept of a part can be used.
-ghost use Rattle.std.specs.Prelude.{◌≡◌, false, Some, None, MatchOption};
+ghost use Rattle.std.specs.Prelude.{◌≡◌, true, false, Some, None, MatchOption};
 ghost use Rattle.std.specs.List.{list_all, All, IsDistinct};
 ghost use Rattle.std.specs.FinMap as maps;
 ghost use Rattle.std.specs.Str.{bytes_eq};
@@ -9,8 +9,10 @@ ghost use Rattle.tx_walk.specs.SameTrees.{same};
 ghost use Rattle.tx_walk.specs.Held.{agrees, fits};
 ghost use Rattle.tx_walk.specs.Walked.{IsTidy, kept_in, paths_of};
 ghost use Rattle.tx_walk.specs.Finding.{AreFindable, IsHeldBy, IsHeldIn, IsUnheld};
-ghost use Rattle.tx_walk.specs.Prior.{stores_of};
+ghost use Rattle.tx_walk.specs.LayerTraces.{serves_for};
+ghost use Rattle.tx_walk.specs.Prior.{stores_of, holder_of};
 
+use crate::layer_traces::{LayerTrace, found_layer};
 use crate::part::Part;
 use crate::prior::{PriorParts, PriorStores};
 use crate::progress::NextNumbers;
@@ -108,4 +110,22 @@ pub(crate) fn held<'a>(
         part,
         renewed: true,
     })
+}
+
+/// What holds the layer's tree where names have this: what is kept, and else the spare. The numbers that are likely
+/// next are kept in `next`.
+pub(crate) fn held_layer<'a>(
+    env: &Env,
+    kept: &PriorStores<'a>,
+    t: &Tree,
+    next: &mut NextNumbers,
+) -> Option<&'a LayerTrace>
+    ensures { MatchOption result (holder_of kept.now t.now (before_of env.now) ≡ false)
+        (λ m. (serves_for t.now (before_of env.now) m.now ≡ true)
+        × (holder_of kept.now t.now (before_of env.now) ≡ true)) }
+{
+    if let Some(found) = found_layer(env, kept.layers, t, &mut next.layers) {
+        return Some(found);
+    }
+    found_layer(env, kept.spare_layers, t, &mut next.spare_layers)
 }

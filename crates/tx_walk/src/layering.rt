@@ -15,18 +15,20 @@ ghost use Rattle.tx_walk.specs.Held.{AreSound};
 ghost use Rattle.tx_walk.specs.Guides.{guide_of, charged, charged_in};
 ghost use Rattle.tx_walk.specs.Finding.{AreFindable};
 ghost use Rattle.tx_walk.specs.Layers.{LayerStage, LayerDone, stage_in};
-ghost use Rattle.tx_walk.specs.Prior.{stores_of};
+ghost use Rattle.tx_walk.specs.LayerTraces.{AreKnownBy, AreKnownIn};
+ghost use Rattle.tx_walk.specs.Prior.{stores_of, holder_of};
 ghost use Rattle.tx_walk.specs.Shells.{wide_layer, wide_layers, wide_shell};
 ghost use Rattle.tx_walk.specs.Spending.{RisesAlike};
 ghost use Rattle.tx_walk.specs.Steps.{so_far_of, trace_under, IsReady, IsBehind, IsAdded};
 
-use crate::layers::{LayerSoFar, cost_within, pairs_to_set};
+use crate::layers::{LayerSoFar, cost_within};
 use crate::part::Part;
 use crate::prior::PriorStores;
 use crate::progress::WalkProgress;
 use crate::scopes::set_all;
 use crate::shelled::{layer_of, look_at_label, stepped, tag_of};
 use crate::shells::{Layer, Opener, Shell};
+use crate::tree_settings::pairs_to_set;
 use crate::walking::walk_tree;
 use std::alloc::Global;
 use std::sync::ledger::Ledger;
@@ -69,6 +71,8 @@ pub(crate) fn shelled<O: Opener, L: Ledger>(
     ensures counted { OnOk result (steps.new
         ≡ steps.old
         + charged (guide_of (O.opens opener.now) kept.now) levels left path.now t.now (before_of env.old)) }
+    ensures layers { IfOk result (λ o. AreKnownBy (shells_by (O.opens opener.now)) levels left t.now (before_of env.old)
+        progress.old.layers.items progress.new.layers.items (wide_outcome o)) }
     ensures spent { OnOk result (RisesAlike steps.old progress.old.spent steps.new progress.new.spent) }
     ensures names_once { IfOk result NamesOnce }
     ensures done_ready { All IsReady done.new.items }
@@ -135,6 +139,8 @@ fn in_layers<O: Opener, L: Ledger>(
         ≡ steps.old
         + charged_in (guide_of (O.opens opener.now) kept.now) levels (wide_layers layers.now) i left
         path.now t.now (before_of env.old)) }
+    ensures layers { IfOk result (λ o. AreKnownIn (shells_by (O.opens opener.now)) levels (wide_layers layers.now) left
+        t.now (before_of env.old) progress.old.layers.items progress.new.layers.items (wide_outcome o)) }
     ensures spent { OnOk result (RisesAlike steps.old progress.old.spent steps.new progress.new.spent) }
     ensures names_once { IfOk result NamesOnce }
     ensures done_ready { All IsReady done.new.items }
@@ -192,6 +198,8 @@ fn in_child<O: Opener, L: Ledger>(
         ≡ steps.old
         + charged_in (guide_of (O.opens opener.now) kept.now) levels [] i left
         path.now t.now (before_of env.old)) }
+    ensures layers { IfOk result (λ o. AreKnownIn (shells_by (O.opens opener.now)) levels [] left t.now
+        (before_of env.old) progress.old.layers.items progress.new.layers.items (wide_outcome o)) }
     ensures spent { OnOk result (RisesAlike steps.old progress.old.spent steps.new progress.new.spent) }
     ensures names_once { IfOk result NamesOnce }
     ensures done_ready { All IsReady done.new.items }
@@ -254,6 +262,9 @@ fn in_layer<O: Opener, L: Ledger>(
         ≡ steps.old
         + charged_in (guide_of (O.opens opener.now) kept.now) levels (wide_layer layer.now ∷ wide_layers inner.now) i
         left path.now t.now (before_of env.old)) }
+    ensures layers { IfOk result (λ o. AreKnownIn (shells_by (O.opens opener.now)) levels
+        (wide_layer layer.now ∷ wide_layers inner.now) left t.now (before_of env.old)
+        progress.old.layers.items progress.new.layers.items (wide_outcome o)) }
     ensures spent { OnOk result (RisesAlike steps.old progress.old.spent steps.new progress.new.spent) }
     ensures names_once { IfOk result NamesOnce }
     ensures done_ready { All IsReady done.new.items }
@@ -322,12 +333,24 @@ fn through_layer<O: Opener, L: Ledger>(
         ≡ steps.old
         + charged_in (guide_of (O.opens opener.now) kept.now) levels (wide_layer layer.now ∷ wide_layers inner.now) i
         left path.now t.now (before_of env.old)) }
+    ensures layers { IfOk result (λ o. AreKnownIn (shells_by (O.opens opener.now)) levels
+        (wide_layer layer.now ∷ wide_layers inner.now) left t.now (before_of env.old)
+        progress.old.layers.items progress.new.layers.items (wide_outcome o)) }
     ensures spent { OnOk result (RisesAlike steps.old progress.old.spent steps.new progress.new.spent) }
     ensures names_once { IfOk result NamesOnce }
     ensures done_ready { All IsReady done.new.items }
     ensures scopes { env.new.scopes ≡ env.old.scopes }
 {
-    let went = so_far.add_layer(alloc, layer, env, levels - 1, left - 1, progress, steps)?;
+    let went = so_far.add_layer(
+        alloc,
+        layer,
+        env,
+        levels - 1,
+        left - 1,
+        kept,
+        progress,
+        steps,
+    )?;
     if !went {
         return Ok(Outcome::Over);
     }
@@ -360,7 +383,7 @@ fn behind_values<O: Opener, L: Ledger>(
     requires inner_full { AllByRecursion IsFull (wide_layers inner.now) }
     requires some { 0 < levels }
     requires allowed { 0 < left }
-    requires comes { (s : LayerStage) × LayerDone (levels - 1) (left - 1) (wide_layer layer.now) s
+    requires comes { (s : LayerStage) × LayerDone (holder_of kept.now) (levels - 1) (left - 1) (wide_layer layer.now) s
         (stage_in so_far.old env.old steps.old) }
     requires levels { levels ≤ 400 }
     requires left { left ≤ 1000000 }
@@ -369,22 +392,26 @@ fn behind_values<O: Opener, L: Ledger>(
     requires own { AreFindable kept.now.own }
     requires spare { AreFindable kept.now.spare }
     requires done_ready { All IsReady done.old.items }
-    ensures exact { (s : LayerStage) → LayerDone (levels - 1) (left - 1) (wide_layer layer.now) s
+    ensures exact { (s : LayerStage) → LayerDone (holder_of kept.now) (levels - 1) (left - 1) (wide_layer layer.now) s
         (stage_in so_far.old env.old steps.old) → IfOk result
         (λ o. wide_outcome o ≡ option_map (trace_under path.now)
         (evaluates_in levels (wide_layer layer.now ∷ wide_layers inner.now) i left t.now s.names)) }
-    ensures behind { (s : LayerStage) → LayerDone (levels - 1) (left - 1) (wide_layer layer.now) s
+    ensures behind { (s : LayerStage) → LayerDone (holder_of kept.now) (levels - 1) (left - 1) (wide_layer layer.now) s
         (stage_in so_far.old env.old steps.old) → IfOk result
         (λ o. IsBehind s.names (before_of env.new) (wide_outcome o)) }
-    ensures added { (s : LayerStage) → LayerDone (levels - 1) (left - 1) (wide_layer layer.now) s
+    ensures added { (s : LayerStage) → LayerDone (holder_of kept.now) (levels - 1) (left - 1) (wide_layer layer.now) s
         (stage_in so_far.old env.old steps.old) → IfOk result
         (λ o. IsAdded (stores_of kept.now)
         (parts_in (shells_by (O.opens opener.now)) levels (wide_layer layer.now ∷ wide_layers inner.now) i left
         path.now t.now s.names) done.old.items done.new.items (wide_outcome o)) }
-    ensures counted { (s : LayerStage) → LayerDone (levels - 1) (left - 1) (wide_layer layer.now) s
+    ensures counted { (s : LayerStage) → LayerDone (holder_of kept.now) (levels - 1) (left - 1) (wide_layer layer.now) s
         (stage_in so_far.old env.old steps.old) → OnOk result (steps.new ≡ s.count
         + charged_in (guide_of (O.opens opener.now) kept.now) levels
         (wide_layer layer.now ∷ wide_layers inner.now) i left path.now t.now s.names) }
+    ensures layers { (s : LayerStage) → LayerDone (holder_of kept.now) (levels - 1) (left - 1) (wide_layer layer.now) s
+        (stage_in so_far.old env.old steps.old) → IfOk result
+        (λ o. AreKnownIn (shells_by (O.opens opener.now)) levels (wide_layer layer.now ∷ wide_layers inner.now) left
+        t.now s.names progress.old.layers.items progress.new.layers.items (wide_outcome o)) }
     ensures spent { OnOk result (RisesAlike steps.old progress.old.spent steps.new progress.new.spent) }
     ensures names_once { IfOk result NamesOnce }
     ensures done_ready { All IsReady done.new.items }
@@ -446,6 +473,9 @@ fn inside_layer<O: Opener, L: Ledger>(
         (get (overlaid env.old.map pairs.now))) done.old.items done.new.items (wide_outcome o)) }
     ensures counted { OnOk result (steps.new ≡ steps.old + charged_in (guide_of (O.opens opener.now) kept.now)
         levels (wide_layers layers.now) i left path.now t.now (get (overlaid env.old.map pairs.now))) }
+    ensures layers { IfOk result (λ o. AreKnownIn (shells_by (O.opens opener.now)) levels (wide_layers layers.now) left
+        t.now (get (overlaid env.old.map pairs.now)) progress.old.layers.items progress.new.layers.items
+        (wide_outcome o)) }
     ensures spent { OnOk result (RisesAlike steps.old progress.old.spent steps.new progress.new.spent) }
     ensures names_once { IfOk result NamesOnce }
     ensures done_ready { All IsReady done.new.items }
@@ -492,6 +522,9 @@ fn set_layer<O: Opener, L: Ledger>(
         (get (overlaid env.old.map pairs.now))) done.old.items done.new.items (wide_outcome o)) }
     ensures counted { OnOk result (steps.new ≡ steps.old + charged_in (guide_of (O.opens opener.now) kept.now)
         levels (wide_layers layers.now) i left path.now t.now (get (overlaid env.old.map pairs.now))) }
+    ensures layers { IfOk result (λ o. AreKnownIn (shells_by (O.opens opener.now)) levels (wide_layers layers.now) left
+        t.now (get (overlaid env.old.map pairs.now)) progress.old.layers.items progress.new.layers.items
+        (wide_outcome o)) }
     ensures spent { OnOk result (RisesAlike steps.old progress.old.spent steps.new progress.new.spent) }
     ensures names_once { IfOk result NamesOnce }
     ensures done_ready { All IsReady done.new.items }

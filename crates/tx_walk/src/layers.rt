@@ -1,25 +1,30 @@
 // The names and the trees of a layer.
-ghost use Rattle.std.specs.Prelude.{◌≡◌, ◌<◌, ◌≤◌, ◌+◌, ◌-◌, ◌++◌, ◌∷◌, [], IfOk, OnOk, MatchOption};
-ghost use Rattle.tx_tree.specs.WideTree.{nodes_of};
-ghost use Rattle.tx_origin.specs.Values.{plain};
+ghost use Rattle.std.specs.Prelude.{◌≡◌, ◌<◌, ◌≤◌, ◌+◌, ◌-◌, ◌++◌, ◌∷◌, [], ℕ, true, IfOk, OnOk, MatchOption};
 ghost use Rattle.tx_parts.specs.Atop.{env_atop};
 ghost use Rattle.tx_parts.specs.Composed.{nothing_yet};
 ghost use Rattle.tx_parts.specs.Shells.{IsFull};
-ghost use Rattle.tx_parts.specs.LayerCosts.{set_nodes};
+ghost use Rattle.tx_parts.specs.LayerCosts.{holds_nothing};
 ghost use Rattle.tx_exec.specs.States.{before_of};
 ghost use Rattle.tx_exec.specs.Outcomes.{wide_trace};
+ghost use Rattle.tx_walk.specs.Held.{agrees};
 ghost use Rattle.tx_walk.specs.Walked.{AreOnce};
+ghost use Rattle.tx_walk.specs.Prior.{holder_of};
 ghost use Rattle.tx_walk.specs.Shells.{wide_layer};
 ghost use Rattle.tx_walk.specs.Spending.{RisesAlike};
 ghost use Rattle.tx_walk.specs.Steps.{so_far_of, with_trace, IsJoined};
-ghost use Rattle.tx_walk.specs.Layers.{name_trace, name_outcome, set_sizes, pairs_of_settings, TreeComes, SettingComes, LayerComes};
-ghost use Rattle.tx_walk.specs.Layers.{stage_in};
+ghost use Rattle.tx_walk.specs.Layers.{name_trace, name_outcome, set_sizes, pairs_of_settings, stage_in};
+ghost use Rattle.tx_walk.specs.Layers.{TreeComes, SettingComes, LayerComes};
 
 use crate::evaluating::spend_on;
+use crate::fitting::held_layer;
 use crate::joined::Joined;
+use crate::layer_traces::LayerTrace;
+use crate::prior::PriorStores;
 use crate::progress::WalkProgress;
 use crate::scopes::set_all;
+use crate::sharing::share_trace;
 use crate::shells::Layer;
+use crate::tree_settings::TreeSetting;
 use std::alloc::Global;
 use std::sync::ledger::Ledger;
 use tx_base::{Memory, Steps};
@@ -28,11 +33,11 @@ use tx_exec::{Looks, Outcome, Trace};
 use tx_origin::Value;
 use tx_tree::{Text, Tree};
 
-/// What names and trees of a layer came to so far, and each name with the value of its tree.
+/// What names and trees of a layer came to so far, and what each name is to be set to.
 #[derive(Drop)]
 pub(crate) struct LayerSoFar {
     pub joined: Joined,
-    pub settings: Vec<(Text, Value)>,
+    pub settings: Vec<TreeSetting>,
 }
 
 // The trace of a text without an origin.
@@ -77,24 +82,49 @@ impl LayerSoFar {
         }
     }
 
-    // A tree more, with this trace, to whose value the name is to be set. What the tree sets is set.
-    fn add_trace(&mut self, name: &Text, trace: Trace, env: &mut Env) -> Result<(), Memory>
-        requires cost { self.old.joined.cost + trace.cost ≤ 1000000 }
-        requires once { AreOnce trace }
+    // A tree more, which is done. What it sets is set.
+    fn add_done(&mut self, alloc: Global, setting: TreeSetting, env: &mut Env) -> Result<(), Memory>
+        requires cost { self.old.joined.cost + setting.done.trace.cost ≤ 1000000 }
         ensures joined { OnOk result
-            (so_far_of self.new.joined ≡ with_trace (so_far_of self.old.joined) (wide_trace trace)) }
-        ensures settings { OnOk result
-            (self.new.settings.items ≡ self.old.settings.items ++ (name.now, trace.value) ∷ []) }
-        ensures names { OnOk result (before_of env.new ≡ env_atop (wide_trace trace).writes (before_of env.old)) }
+            (so_far_of self.new.joined ≡ with_trace (so_far_of self.old.joined) setting.done.trace) }
+        ensures settings { OnOk result (self.new.settings.items ≡ self.old.settings.items ++ setting ∷ []) }
+        ensures names { OnOk result (before_of env.new ≡ env_atop setting.done.trace.writes (before_of env.old)) }
         ensures scopes { env.new.scopes ≡ env.old.scopes }
     {
-        set_all(env, trace.writes.pairs())?;
-        self.settings.push((name.copy()?, trace.value.share()?))?;
-        self.joined.add(trace)
+        set_all(env, setting.trace().writes.pairs())?;
+        self.joined.add(share_trace(alloc, setting.trace())?)?;
+        self.settings.push(setting)?;
+        Ok(())
+    }
+
+    // A tree more, which is held by this. The answer is false where it isn't allowed.
+    fn add_held(
+        &mut self,
+        alloc: Global,
+        name: &Text,
+        found: &LayerTrace,
+        env: &mut Env,
+        levels: u32,
+        left: u64,
+    ) -> Result<bool, Memory>
+        requires cost { self.old.joined.cost ≤ left }
+        requires left { left ≤ 1000000 }
+        requires fits { agrees (before_of env.old) found.now.trace.looks ≡ true }
+        ensures comes { (count : ℕ) → IfOk result (λ went. TreeComes (λ t e. true) levels left name.now found.now.tree
+            (stage_in self.old env.old count) (stage_in self.new env.new count) went) }
+        ensures scopes { env.new.scopes ≡ env.old.scopes }
+    {
+        let rest = left - self.joined.cost;
+        let trace = found.trace();
+        if trace.cost > rest || trace.height > levels {
+            return Ok(false);
+        }
+        self.add_done(alloc, TreeSetting::held(alloc, name, found)?, env)?;
+        Ok(true)
     }
 
     // A tree more, which is evaluated. The answer is false where it is over.
-    fn add_tree<L: Ledger>(
+    fn add_new<L: Ledger>(
         &mut self,
         alloc: Global,
         name: &Text,
@@ -108,18 +138,48 @@ impl LayerSoFar {
         requires levels { levels ≤ 400 }
         requires cost { self.old.joined.cost ≤ left }
         requires left { left ≤ 1000000 }
-        ensures comes { IfOk result (λ went. TreeComes levels left name.now t.now
+        ensures comes { IfOk result (λ went. TreeComes holds_nothing levels left name.now t.now
             (stage_in self.old env.old steps.old) (stage_in self.new env.new steps.new) went) }
         ensures spent { OnOk result (RisesAlike steps.old progress.old.spent steps.new progress.new.spent) }
+        ensures layers { progress.new.layers ≡ progress.old.layers }
         ensures scopes { env.new.scopes ≡ env.old.scopes }
     {
         let rest = left - self.joined.cost;
         match spend_on(alloc, t, None, env, levels, rest, progress, steps)? {
             Outcome::Over => Ok(false),
             Outcome::Done(trace) => {
-                self.add_trace(name, trace, env)?;
+                let setting = TreeSetting::new(name.copy()?, t.share()?, trace);
+                self.add_done(alloc, setting, env)?;
                 Ok(true)
             }
+        }
+    }
+
+    // A tree more. It is evaluated where it isn't held. The answer is false where it is over.
+    fn add_tree<L: Ledger>(
+        &mut self,
+        alloc: Global,
+        name: &Text,
+        t: &Tree,
+        env: &mut Env,
+        levels: u32,
+        left: u64,
+        kept: &PriorStores<'_>,
+        progress: &mut WalkProgress,
+        steps: &mut Steps<L>,
+    ) -> Result<bool, Memory>
+        requires levels { levels ≤ 400 }
+        requires cost { self.old.joined.cost ≤ left }
+        requires left { left ≤ 1000000 }
+        ensures comes { IfOk result (λ went. TreeComes (holder_of kept.now) levels left name.now t.now
+            (stage_in self.old env.old steps.old) (stage_in self.new env.new steps.new) went) }
+        ensures spent { OnOk result (RisesAlike steps.old progress.old.spent steps.new progress.new.spent) }
+        ensures layers { progress.new.layers ≡ progress.old.layers }
+        ensures scopes { env.new.scopes ≡ env.old.scopes }
+    {
+        match held_layer(env, kept, t, &mut progress.next) {
+            Some(found) => self.add_held(alloc, name, found, env, levels, left),
+            None => self.add_new(alloc, name, t, env, levels, left, progress, steps),
         }
     }
 
@@ -132,15 +192,17 @@ impl LayerSoFar {
         env: &mut Env,
         levels: u32,
         left: u64,
+        kept: &PriorStores<'_>,
         progress: &mut WalkProgress,
         steps: &mut Steps<L>,
     ) -> Result<bool, Memory>
         requires levels { levels ≤ 400 }
         requires cost { self.old.joined.cost ≤ left }
         requires left { left ≤ 1000000 }
-        ensures comes { IfOk result (λ went. SettingComes levels left name.now t.now
+        ensures comes { IfOk result (λ went. SettingComes (holder_of kept.now) levels left name.now t.now
             (stage_in self.old env.old steps.old) (stage_in self.new env.new steps.new) went) }
         ensures spent { OnOk result (RisesAlike steps.old progress.old.spent steps.new progress.new.spent) }
+        ensures layers { progress.new.layers ≡ progress.old.layers }
         ensures scopes { env.new.scopes ≡ env.old.scopes }
     {
         if levels == 0 {
@@ -150,7 +212,7 @@ impl LayerSoFar {
         if !named {
             return Ok(false);
         }
-        self.add_tree(alloc, name, t, env, levels, left, progress, steps)
+        self.add_tree(alloc, name, t, env, levels, left, kept, progress, steps)
     }
 
     /// All names and trees of the layer, one behind the other. The answer is false where one is over.
@@ -161,6 +223,7 @@ impl LayerSoFar {
         env: &mut Env,
         levels: u32,
         left: u64,
+        kept: &PriorStores<'_>,
         progress: &mut WalkProgress,
         steps: &mut Steps<L>,
     ) -> Result<bool, Memory>
@@ -169,9 +232,10 @@ impl LayerSoFar {
         requires left { left ≤ 1000000 }
         requires joined { so_far_of self.old.joined ≡ nothing_yet }
         requires settings { self.old.settings.items ≡ [] }
-        ensures comes { IfOk result (λ went. LayerComes levels left (wide_layer layer.now)
+        ensures comes { IfOk result (λ went. LayerComes (holder_of kept.now) levels left (wide_layer layer.now)
             (stage_in self.old env.old steps.old) (stage_in self.new env.new steps.new) went) }
         ensures spent { OnOk result (RisesAlike steps.old progress.old.spent steps.new progress.new.spent) }
+        ensures layers { progress.new.layers ≡ progress.old.layers }
         ensures scopes { env.new.scopes ≡ env.old.scopes }
     {
         for i in 0..layer.names.len() {
@@ -182,6 +246,7 @@ impl LayerSoFar {
                 env,
                 levels,
                 left,
+                kept,
                 progress,
                 steps,
             )?;
@@ -195,7 +260,7 @@ impl LayerSoFar {
 
 /// What the layer costs, where its names and trees, and its node, cost `base`: the sizes of the values more. None where
 /// that is more than what is left.
-pub(crate) fn cost_within(settings: &[(Text, Value)], base: u64, left: u64) -> Option<u64>
+pub(crate) fn cost_within(settings: &[TreeSetting], base: u64, left: u64) -> Option<u64>
     requires left { left ≤ 1000000 }
     ensures { MatchOption result (left < base + set_sizes (pairs_of_settings settings.now))
         (λ n. (n ≡ base + set_sizes (pairs_of_settings settings.now)) × (n ≤ left)) }
@@ -205,44 +270,10 @@ pub(crate) fn cost_within(settings: &[(Text, Value)], base: u64, left: u64) -> O
     }
     let mut cost = base;
     for setting in settings {
-        cost += setting.1.size();
+        cost += setting.size();
         if cost > left {
             return None;
         }
     }
     Some(cost)
-}
-
-// What the name is to be set to: the tree of its value. A step is taken for each node, and spent.
-fn plain_of<L: Ledger>(
-    alloc: Global,
-    value: &Value,
-    progress: &mut WalkProgress,
-    steps: &mut Steps<L>,
-) -> Result<Tree, Memory>
-    ensures tree { IfOk result (λ t. t ≡ plain value.now) }
-    ensures counted { OnOk result (steps.new ≡ steps.old + nodes_of (plain value.now)) }
-    ensures spent { OnOk result (RisesAlike steps.old progress.old.spent steps.new progress.new.spent) }
-{
-    let tree = value.plain(alloc, steps)?;
-    progress.spend(value.nodes());
-    Ok(tree)
-}
-
-/// The names with the trees of their values. A step is taken for each node, and spent.
-pub(crate) fn pairs_to_set<L: Ledger>(
-    alloc: Global,
-    settings: &[(Text, Value)],
-    progress: &mut WalkProgress,
-    steps: &mut Steps<L>,
-) -> Result<Vec<(Text, Tree)>, Memory>
-    ensures pairs { IfOk result (λ ps. ps.items ≡ pairs_of_settings settings.now) }
-    ensures counted { OnOk result (steps.new ≡ steps.old + set_nodes (pairs_of_settings settings.now)) }
-    ensures spent { OnOk result (RisesAlike steps.old progress.old.spent steps.new progress.new.spent) }
-{
-    let mut pairs = Vec::new(alloc);
-    for (name, value) in settings {
-        pairs.push((name.copy()?, plain_of(alloc, value, progress, steps)?))?;
-    }
-    Ok(pairs)
 }

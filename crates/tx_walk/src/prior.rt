@@ -5,6 +5,7 @@ ghost use Rattle.std.specs.Str.{bytes_eq};
 ghost use Rattle.tx_walk.specs.Walked.{kept_in, paths_of};
 ghost use Rattle.tx_walk.specs.Finding.{AreSortedByPath, IsKeptAt, side};
 
+use crate::layer_traces::LayerTrace;
 use crate::part::Part;
 use std::cmp::Ordering;
 use std::marker::Model;
@@ -129,22 +130,33 @@ impl<'a> PriorParts<'a> {
     }
 }
 
-/// Parts that are kept, and those of the spare.
+/// Parts that are kept, and those of the spare, and what is kept of layers, and is spare.
 #[derive(Drop)]
 pub(crate) struct PriorStores<'a> {
     pub own: PriorParts<'a>,
     pub spare: PriorParts<'a>,
+    pub layers: &'a [LayerTrace],
+    pub spare_layers: &'a [LayerTrace],
 }
 
 impl<'a> PriorStores<'a> {
-    /// These parts.
-    pub(crate) fn new(own: &'a [Part], spare: &'a [Part]) -> PriorStores<'a>
+    /// These parts and layers' trees.
+    pub(crate) fn new(
+        own: &'a [Part],
+        spare: &'a [Part],
+        layers: &'a [LayerTrace],
+        spare_layers: &'a [LayerTrace],
+    ) -> PriorStores<'a>
         ensures own { result.own ≡ own.now }
         ensures spare { result.spare ≡ spare.now }
+        ensures layers { result.layers.now ≡ layers.now }
+        ensures spare_layers { result.spare_layers.now ≡ spare_layers.now }
     {
         PriorStores {
             own: PriorParts::new(own),
             spare: PriorParts::new(spare),
+            layers,
+            spare_layers,
         }
     }
 }

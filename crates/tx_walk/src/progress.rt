@@ -1,36 +1,50 @@
 // How far a walk has come.
-ghost use Rattle.std.specs.Prelude.{◌≡◌, ◌+◌};
+ghost use Rattle.std.specs.Prelude.{◌≡◌, ◌+◌, []};
 ghost use Rattle.tx_walk.specs.Spending.{capped};
 
-/// The numbers of the parts that are likely next, of those that are kept and of the spare's.
+use crate::layer_traces::LayerTrace;
+use std::alloc::Global;
+
+/// The numbers of what is likely next, of the parts and the layers' trees that are kept and of the spare's.
 #[derive(Drop)]
 pub(crate) struct NextNumbers {
     pub own: usize,
     pub spare: usize,
+    pub layers: usize,
+    pub spare_layers: usize,
 }
 
-/// The numbers of the parts that are likely next, and the steps spent so far. They stand still at the greatest
-/// value of the counter, which no walk reaches.
+/// The numbers of what is likely next, the steps spent so far, and what layers' trees came to so far. The steps stand
+/// still at the greatest value of the counter, which no walk reaches.
 #[derive(Drop)]
 pub(crate) struct WalkProgress {
     pub next: NextNumbers,
     pub spent: u64,
+    pub layers: Vec<LayerTrace>,
 }
 
 impl WalkProgress {
-    /// At the first part, with nothing spent.
-    pub(crate) fn new() -> WalkProgress
-        ensures { result.spent ≡ 0 }
+    /// At the beginning, with nothing spent.
+    pub(crate) fn new(alloc: Global) -> WalkProgress
+        ensures spent { result.spent ≡ 0 }
+        ensures layers { result.layers.items ≡ [] }
     {
         WalkProgress {
-            next: NextNumbers { own: 0, spare: 0 },
+            next: NextNumbers {
+                own: 0,
+                spare: 0,
+                layers: 0,
+                spare_layers: 0,
+            },
             spent: 0,
+            layers: Vec::new(alloc),
         }
     }
 
     /// Spends so many steps.
     pub(crate) fn spend(&mut self, cost: u64)
-        ensures { self.new.spent ≡ capped (self.old.spent + cost) }
+        ensures spent { self.new.spent ≡ capped (self.old.spent + cost) }
+        ensures layers { self.new.layers ≡ self.old.layers }
     {
         self.spent = self.spent.saturating_add(cost);
     }

@@ -14,6 +14,7 @@ ghost use Rattle.tx_walk.specs.Held.{AreSound};
 ghost use Rattle.tx_walk.specs.Guides.{guide_of, charged};
 ghost use Rattle.tx_walk.specs.Walked.{AreOnce, IsTidy, IsPlaced};
 ghost use Rattle.tx_walk.specs.Finding.{AreFindable};
+ghost use Rattle.tx_walk.specs.LayerTraces.{AreKnownBy};
 ghost use Rattle.tx_walk.specs.Prior.{stores_of};
 ghost use Rattle.tx_walk.specs.Steps.{trace_under, settled, IsReady, IsBehind, IsAdded, IsPushed, IsNewPushed};
 ghost use Rattle.tx_walk.specs.Spending.{RisesAlike};
@@ -126,6 +127,7 @@ fn new_part<L: Ledger>(
         done.new.items (wide_outcome o)) }
     ensures counted { OnOk result (steps.new
         ≡ steps.old + paid left (evaluates levels left t.now (before_of env.old))) }
+    ensures layers { progress.new.layers ≡ progress.old.layers }
     ensures spent { OnOk result (RisesAlike steps.old progress.old.spent steps.new progress.new.spent) }
     ensures names_once { IfOk result NamesOnce }
     ensures done_ready { All IsReady done.new.items }
@@ -186,6 +188,8 @@ pub(crate) fn part<O: Opener, L: Ledger>(
         done.old.items done.new.items (wide_outcome o)) }
     ensures counted { OnOk result (steps.new
         ≡ steps.old + charged (guide_of (O.opens opener.now) kept.now) levels left path t.now (before_of env.old)) }
+    ensures layers { IfOk result (λ o. AreKnownBy (shells_by (O.opens opener.now)) levels left t.now (before_of env.old)
+        progress.old.layers.items progress.new.layers.items (wide_outcome o)) }
     ensures spent { OnOk result (RisesAlike steps.old progress.old.spent steps.new progress.new.spent) }
     ensures names_once { IfOk result NamesOnce }
     ensures done_ready { All IsReady done.new.items }

@@ -1,13 +1,16 @@
 // A unit by its parts.
-ghost use Rattle.std.specs.Prelude.{◌≡◌, ◌≤◌, ◌+◌, [], IfOk, OnOk, length, map};
+ghost use Rattle.std.specs.Prelude.{◌≡◌, ◌≤◌, ◌+◌, [], IfOk, OnOk, IfSome, length, map};
 ghost use Rattle.std.specs.List.{All, IsDistinct};
 ghost use Rattle.std.specs.Str.{bytes_eq};
 ghost use Rattle.tx_exec_form.specs.declared.TheConstants.{MOST_LEVELS};
+ghost use Rattle.tx_exec_form.specs.Evaluated.{WideTrace};
 ghost use Rattle.tx_exec.specs.States.{before_of};
 ghost use Rattle.tx_exec.specs.Outcomes.{wide_outcome, NamesOnce};
 ghost use Rattle.tx_parts.specs.Composed.{evaluates};
 ghost use Rattle.tx_parts.specs.Opening.{shells_by};
 ghost use Rattle.tx_parts.specs.Parts.{parts, parts_by};
+ghost use Rattle.tx_parts.specs.LayerCosts.{layer_costs_by};
+ghost use Rattle.tx_walk.specs.LayerTraces.{holds_in, holds_either, AreKnownBy};
 ghost use Rattle.tx_walk.specs.Guides.{guide_of, charged};
 ghost use Rattle.tx_walk.specs.Held.{AreSound, charges};
 ghost use Rattle.tx_walk.specs.Walked.{IsTidy, IsPlaced, stores_in, paths_of, seen, seen_parts};
@@ -15,6 +18,7 @@ ghost use Rattle.tx_walk.specs.Finding.{AreFindable};
 ghost use Rattle.tx_walk.specs.Prior.{stores_of};
 ghost use Rattle.tx_walk.specs.Steps.{IsAdded, IsReady, parts_if_done};
 
+use crate::layer_traces::LayerTrace;
 use crate::part::Part;
 use crate::prior::PriorStores;
 use crate::progress::WalkProgress;
@@ -32,10 +36,12 @@ use tx_tree::{Path, Tree};
 pub struct Walked {
     /// Its trace, or that it is over.
     pub outcome: Outcome,
-    /// How many steps it took: the costs of the parts that weren't held.
+    /// How many steps it took: the costs of the parts that weren't held, and of layers' trees that weren't.
     pub charge: u64,
     /// Its parts in order, and none where it is over.
     pub parts: Vec<Part>,
+    /// What the trees of its layers came to, each once, and none where it is over.
+    pub layers: Vec<LayerTrace>,
 }
 
 // What the tree comes to, with all levels and at the root's origin. Its parts come behind the others.
@@ -63,6 +69,8 @@ fn walk_root<O: Opener, L: Ledger>(
         done.old.items done.new.items (wide_outcome o)) }
     ensures counted { OnOk result (steps.new ≡ steps.old
         + charged (guide_of (O.opens opener.now) kept.now) MOST_LEVELS allowance [] t.now (before_of env.old)) }
+    ensures layers { IfOk result (λ o. AreKnownBy (shells_by (O.opens opener.now)) MOST_LEVELS allowance t.now
+        (before_of env.old) progress.old.layers.items progress.new.layers.items (wide_outcome o)) }
     ensures spent { OnOk result (progress.new.spent
         ≡ charged (guide_of (O.opens opener.now) kept.now) MOST_LEVELS allowance [] t.now (before_of env.old)) }
     ensures names_once { IfOk result NamesOnce }
@@ -76,12 +84,19 @@ fn walk_root<O: Opener, L: Ledger>(
 }
 
 // What was walked. A unit that is over has no parts.
-fn unit_of(alloc: Global, outcome: Outcome, charge: u64, done: Vec<Part>) -> Walked
+fn unit_of(
+    alloc: Global,
+    outcome: Outcome,
+    charge: u64,
+    done: Vec<Part>,
+    layers: Vec<LayerTrace>,
+) -> Walked
     requires names_once { NamesOnce outcome }
     requires ready { All IsReady done.items }
     ensures outcome { result.outcome ≡ outcome }
     ensures charge { result.charge ≡ charge }
     ensures parts { result.parts.items ≡ parts_if_done (wide_outcome outcome) done.items }
+    ensures layers { IfSome (wide_outcome outcome) (λ (trace : WideTrace). result.layers.items ≡ layers.items) }
     ensures once { NamesOnce result.outcome }
     ensures tidy { All IsTidy result.parts.items }
     ensures placed { All IsPlaced result.parts.items }
@@ -91,11 +106,13 @@ fn unit_of(alloc: Global, outcome: Outcome, charge: u64, done: Vec<Part>) -> Wal
             outcome: Outcome::Over,
             charge,
             parts: Vec::new(alloc),
+            layers: Vec::new(alloc),
         },
         Outcome::Done(trace) => Walked {
             outcome: Outcome::Done(trace),
             charge,
             parts: done,
+            layers,
         },
     }
 }
@@ -106,10 +123,12 @@ fn unit_of(alloc: Global, outcome: Outcome, charge: u64, done: Vec<Part>) -> Wal
 /// It is gone into each `document` with a child, each `with` of names, texts and a last child, and each tag for which
 /// the opener tells a shell, down to trees of other kinds, which are the parts. A part is held where what is kept at
 /// its path fits what names have before it, or what the spare has there does: then its trace is the part's, and costs
-/// nothing. A part that the spare alone holds is told as renewed. The other parts are evaluated, and so are the trees
-/// of all layers, and the steps rise by their costs, which the answer tells, and by one for each node of what the
-/// layers' names are set to. A part that is over costs all the steps that it has. The environment is as before after
-/// every answer.
+/// nothing. A part that the spare alone holds is told as renewed. So a layer's tree is held where what is kept of
+/// layers, or is spare, has its trace, and this fits what names have before the tree. The other parts are evaluated,
+/// and so are the other trees of layers, and the steps rise by their costs, which the answer tells, and by one for each
+/// node of what names are set to by the latter. A part that is over costs all the steps that it has, and so does a
+/// layer's tree. Another walk for which the answer's layers are kept evaluates no layer's tree. The environment is as
+/// before after every answer.
 pub fn walk_with<O: Opener, L: Ledger>(
     alloc: Global,
     t: &Tree,
@@ -118,6 +137,8 @@ pub fn walk_with<O: Opener, L: Ledger>(
     opener: &O,
     kept: &[Part],
     spare: &[Part],
+    layers: &[LayerTrace],
+    spare_layers: &[LayerTrace],
     steps: &mut Steps<L>,
 ) -> Result<Walked, Memory>
     requires allowance { allowance ≤ 1000000 }
@@ -134,16 +155,22 @@ pub fn walk_with<O: Opener, L: Ledger>(
         (wide_outcome w.outcome)) }
     ensures counted { IfOk result (λ w. steps.new ≡ steps.old + w.charge) }
     ensures charge { IfOk result (λ w. w.charge ≡ charged
-        (record { stores = stores_in kept.now spare.now; sheller = shells_by (O.opens opener.now) })
-        MOST_LEVELS allowance [] t.now (before_of env.old)) }
+        (record {
+          stores = stores_in kept.now spare.now;
+          sheller = shells_by (O.opens opener.now);
+          holder = holds_either layers.now spare_layers.now;
+        }) MOST_LEVELS allowance [] t.now (before_of env.old)) }
+    ensures layers { IfOk result (λ w. IfSome (wide_outcome w.outcome) (λ (trace : WideTrace).
+        layer_costs_by (holds_in w.layers.items) (shells_by (O.opens opener.now)) MOST_LEVELS allowance t.now
+        (before_of env.old) ≡ 0)) }
     ensures once { IfOk result (λ w. NamesOnce w.outcome) }
     ensures tidy { IfOk result (λ w. All IsTidy w.parts.items) }
     ensures placed { IfOk result (λ w. All IsPlaced w.parts.items) }
     ensures env { env.new ≡ env.old }
 {
-    let prior = PriorStores::new(kept, spare);
+    let prior = PriorStores::new(kept, spare, layers, spare_layers);
     let mut done = Vec::new(alloc);
-    let mut progress = WalkProgress::new();
+    let mut progress = WalkProgress::new(alloc);
     let mark = env.enter();
     let outcome = walk_root(
         alloc,
@@ -157,7 +184,8 @@ pub fn walk_with<O: Opener, L: Ledger>(
         steps,
     );
     env.leave(mark);
-    Ok(unit_of(alloc, outcome?, progress.spent, done))
+    let WalkProgress { spent, layers, .. } = progress;
+    Ok(unit_of(alloc, outcome?, spent, done, layers))
 }
 
 /// The same where nothing has a shell.
@@ -190,5 +218,16 @@ pub fn walk<L: Ledger>(
     ensures placed { IfOk result (λ w. All IsPlaced w.parts.items) }
     ensures env { env.new ≡ env.old }
 {
-    walk_with(alloc, t, env, allowance, &Closed, kept, spare, steps)
+    walk_with(
+        alloc,
+        t,
+        env,
+        allowance,
+        &Closed,
+        kept,
+        spare,
+        &[],
+        &[],
+        steps,
+    )
 }

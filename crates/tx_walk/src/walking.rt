@@ -14,6 +14,7 @@ ghost use Rattle.tx_parts.specs.Parts.{parts_by};
 ghost use Rattle.tx_walk.specs.Held.{AreSound};
 ghost use Rattle.tx_walk.specs.Guides.{guide_of, charged};
 ghost use Rattle.tx_walk.specs.Finding.{AreFindable};
+ghost use Rattle.tx_walk.specs.LayerTraces.{AreKnownBy};
 ghost use Rattle.tx_walk.specs.Prior.{stores_of};
 ghost use Rattle.tx_walk.specs.Scopes.{IsScope};
 ghost use Rattle.tx_walk.specs.Spending.{RisesAlike};
@@ -69,6 +70,8 @@ pub(crate) fn walk_tree<O: Opener, L: Ledger>(
         done.old.items done.new.items (wide_outcome o)) }
     ensures counted { OnOk result (steps.new
         ≡ steps.old + charged (guide_of (O.opens opener.now) kept.now) levels left path t.now (before_of env.old)) }
+    ensures layers { IfOk result (λ o. AreKnownBy (shells_by (O.opens opener.now)) levels left t.now (before_of env.old)
+        progress.old.layers.items progress.new.layers.items (wide_outcome o)) }
     ensures spent { OnOk result (RisesAlike steps.old progress.old.spent steps.new progress.new.spent) }
     ensures names_once { IfOk result NamesOnce }
     ensures done_ready { All IsReady done.new.items }
@@ -120,6 +123,8 @@ fn unshelled<O: Opener, L: Ledger>(
     ensures counted { OnOk result (steps.new
         ≡ steps.old
         + charged (guide_of (O.opens opener.now) kept.now) levels left path t.now (before_of env.old)) }
+    ensures layers { IfOk result (λ o. AreKnownBy (shells_by (O.opens opener.now)) levels left t.now (before_of env.old)
+        progress.old.layers.items progress.new.layers.items (wide_outcome o)) }
     ensures spent { OnOk result (RisesAlike steps.old progress.old.spent steps.new progress.new.spent) }
     ensures names_once { IfOk result NamesOnce }
     ensures done_ready { All IsReady done.new.items }
@@ -172,6 +177,8 @@ fn document<O: Opener, L: Ledger>(
     ensures counted { OnOk result (steps.new
         ≡ steps.old
         + charged (guide_of (O.opens opener.now) kept.now) levels left path.now t.now (before_of env.old)) }
+    ensures layers { IfOk result (λ o. AreKnownBy (shells_by (O.opens opener.now)) levels left t.now (before_of env.old)
+        progress.old.layers.items progress.new.layers.items (wide_outcome o)) }
     ensures spent { OnOk result (RisesAlike steps.old progress.old.spent steps.new progress.new.spent) }
     ensures names_once { IfOk result NamesOnce }
     ensures done_ready { All IsReady done.new.items }
@@ -224,8 +231,8 @@ fn children<O: Opener, L: Ledger>(
     requires done_ready { All IsReady done.old.items }
     requires nothing { so_far_of joined.old ≡ nothing_yet }
     ensures comes { IfOk result (λ went. ChildrenCome (guide_of (O.opens opener.now) kept.now) levels left path.now
-        (children_of t.now) (stage_of joined.old env.old done.old.items steps.old)
-        (stage_of joined.new env.new done.new.items steps.new) went) }
+        (children_of t.now) (stage_of joined.old env.old done.old.items steps.old progress.old.layers.items)
+        (stage_of joined.new env.new done.new.items steps.new progress.new.layers.items) went) }
     ensures spent { OnOk result (RisesAlike steps.old progress.old.spent steps.new progress.new.spent) }
     ensures done_ready { All IsReady done.new.items }
     ensures scopes { env.new.scopes ≡ env.old.scopes }
@@ -270,8 +277,8 @@ fn one_child<O: Opener, L: Ledger>(
     requires done_ready { All IsReady done.old.items }
     requires cost { joined.old.cost ≤ left }
     ensures comes { IfOk result (λ went. ChildComes (guide_of (O.opens opener.now) kept.now) levels left path.now i
-        t.now (stage_of joined.old env.old done.old.items steps.old)
-        (stage_of joined.new env.new done.new.items steps.new)
+        t.now (stage_of joined.old env.old done.old.items steps.old progress.old.layers.items)
+        (stage_of joined.new env.new done.new.items steps.new progress.new.layers.items)
         went) }
     ensures spent { OnOk result (RisesAlike steps.old progress.old.spent steps.new progress.new.spent) }
     ensures done_ready { All IsReady done.new.items }
@@ -319,6 +326,8 @@ fn scope<O: Opener, L: Ledger>(
     ensures counted { OnOk result (steps.new
         ≡ steps.old
         + charged (guide_of (O.opens opener.now) kept.now) levels left path.now t.now (before_of env.old)) }
+    ensures layers { IfOk result (λ o. AreKnownBy (shells_by (O.opens opener.now)) levels left t.now (before_of env.old)
+        progress.old.layers.items progress.new.layers.items (wide_outcome o)) }
     ensures spent { OnOk result (RisesAlike steps.old progress.old.spent steps.new progress.new.spent) }
     ensures names_once { IfOk result NamesOnce }
     ensures done_ready { All IsReady done.new.items }
@@ -367,6 +376,8 @@ fn scope_with<O: Opener, L: Ledger>(
     ensures counted { OnOk result (steps.new
         ≡ steps.old
         + charged (guide_of (O.opens opener.now) kept.now) levels left path.now t.now (before_of env.old)) }
+    ensures layers { IfOk result (λ o. AreKnownBy (shells_by (O.opens opener.now)) levels left t.now (before_of env.old)
+        progress.old.layers.items progress.new.layers.items (wide_outcome o)) }
     ensures spent { OnOk result (RisesAlike steps.old progress.old.spent steps.new progress.new.spent) }
     ensures names_once { IfOk result NamesOnce }
     ensures done_ready { All IsReady done.new.items }
@@ -431,6 +442,8 @@ fn inside<O: Opener, L: Ledger>(
         done.old.items done.new.items (wide_outcome o)) }
     ensures counted { OnOk result (steps.new ≡ steps.old + charged (guide_of (O.opens opener.now) kept.now)
         levels left (path.now ++ i ∷ []) t.now (get (overlaid env.old.map pairs.now))) }
+    ensures layers { IfOk result (λ o. AreKnownBy (shells_by (O.opens opener.now)) levels left t.now
+        (get (overlaid env.old.map pairs.now)) progress.old.layers.items progress.new.layers.items (wide_outcome o)) }
     ensures spent { OnOk result (RisesAlike steps.old progress.old.spent steps.new progress.new.spent) }
     ensures names_once { IfOk result NamesOnce }
     ensures done_ready { All IsReady done.new.items }
@@ -476,6 +489,8 @@ fn set_inside<O: Opener, L: Ledger>(
         done.old.items done.new.items (wide_outcome o)) }
     ensures counted { OnOk result (steps.new ≡ steps.old + charged (guide_of (O.opens opener.now) kept.now)
         levels left (path.now ++ i ∷ []) t.now (get (overlaid env.old.map pairs.now))) }
+    ensures layers { IfOk result (λ o. AreKnownBy (shells_by (O.opens opener.now)) levels left t.now
+        (get (overlaid env.old.map pairs.now)) progress.old.layers.items progress.new.layers.items (wide_outcome o)) }
     ensures spent { OnOk result (RisesAlike steps.old progress.old.spent steps.new progress.new.spent) }
     ensures names_once { IfOk result NamesOnce }
     ensures done_ready { All IsReady done.new.items }

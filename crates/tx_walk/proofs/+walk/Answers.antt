@@ -11,7 +11,7 @@ use Rattle.tx_parts.specs.Opening.{shells_by}
 use Rattle.tx_parts.specs.Parts.{parts_by}
 use Rattle.tx_parts.proofs.Openers.{sheller_is}
 use Rattle.tx_walk.specs.Guides.{guide_of}
-use Rattle.tx_walk.specs.Prior.{stores_of}
+use Rattle.tx_walk.specs.Prior.{stores_of, holder_of}
 use Rattle.tx_walk.specs.Steps.{trace_under, so_far_of, stage_of, IsBehind, IsAdded}
 use Rattle.tx_walk.proofs.Spending.{stays, rise_both}
 use Rattle.tx_walk.proofs.Charging.{none_charged, low_charged, nothing_more}
@@ -19,10 +19,10 @@ use Rattle.tx_walk.proofs.Settled.{outcome_cost, any_ok}
 use Rattle.tx_walk.proofs.Soundness.{child_sound, sound_at}
 use Rattle.tx_walk.proofs.Going.{child_comes, begins, next, stops, ends}
 use Rattle.tx_walk.proofs.Document.{document_label, document_over, comes_exact, comes_fits, comes_behind, comes_added}
-use Rattle.tx_walk.proofs.Document.{comes_counted}
+use Rattle.tx_walk.proofs.Document.{comes_counted, comes_known}
 use Rattle.tx_walk.proofs.Within.{scope_is, scope_over, scope_charged, too_dear, dear_with}
 use Rattle.tx_walk.proofs.Within.{closed_exact, closed_fits, closed_added}
-use Rattle.tx_walk.proofs.Within.{closed_counted}
+use Rattle.tx_walk.proofs.Within.{closed_counted, closed_known}
 use Rattle.std.specs.List.{AllByRecursion}
 use Rattle.std.specs.FinMap.{get, empty, from_entries}
 use Rattle.tx_env.specs.Environments.{overlaid}
@@ -30,9 +30,9 @@ use Rattle.tx_parts.specs.Shells.{IsFull}
 use Rattle.tx_parts.specs.Parts.{parts_in}
 use Rattle.tx_walk.specs.Guides.{charged, charged_in}
 use Rattle.tx_parts.specs.Layered.{evaluates_in}
-use Rattle.tx_parts.specs.LayerCosts.{set_nodes}
+use Rattle.tx_walk.specs.LayerTraces.{holds_in, AllHeldBy, AreKnownBy, AreKnownIn}
 use Rattle.tx_walk.specs.Layers.{LayerStage, LayerDone}
-use Rattle.tx_walk.specs.Layers.{pairs_of_settings, set_sizes, stage_in}
+use Rattle.tx_walk.specs.Layers.{pairs_of_settings, set_sizes, new_nodes, stage_in}
 use Rattle.tx_walk.specs.Shells.{wide_layer, wide_layers, wide_shell}
 use Rattle.tx_walk.specs.Shelled.{step_more, look_before, layer_by, BehindLayer}
 use Rattle.tx_walk.proofs.Charging.{low_inside, none_inside}
@@ -43,6 +43,7 @@ use Rattle.tx_walk.proofs.Layered.{without_steps, nothing_in, low_in, values_cos
 use Rattle.tx_walk.proofs.Layered.{child_parts, child_charged, child_exact, child_counted, tag_parts, tag_charged}
 use Rattle.tx_walk.proofs.Layered.{tag_exact, tag_counted, values_over, over_counted, dear_over, dear_counted}
 use Rattle.tx_walk.proofs.Layered.{inside_exact, inside_fits, inside_behind, inside_parts, inside_counted}
+use Rattle.tx_walk.proofs.Layered.{child_known, tag_known, inside_known}
 use Rattle.tx_walk.proofs.+walk.Goals as goal
 
 pub walking::walk_tree-returns-then-levels-eq0-clause-exact :
@@ -79,17 +80,19 @@ walking::one_child-returns-clause-comes g t c =
     c.args.path.now c.args.i
     c.args.t.now (so_far_of c.args.joined.now) (so_far_of c.add_outcome.new.self) (before_of c.args.env.now)
     (before_of c.walk_tree.new.env) c.args.done.now.items c.walk_tree.new.done.items c.args.steps.now
-    c.walk_tree.new.steps c.in_ok-below.below (c.args.left - c.args.joined.now.cost)
+    c.walk_tree.new.steps c.args.progress.now.layers.items c.walk_tree.new.progress.layers.items c.in_ok-below.below
+    (c.args.left - c.args.joined.now.cost)
     (wide_outcome c.in_ok-outcome.outcome) went c.in_ok-below.ensures refl
     c.in_ok-outcome.ensures.exact c.in_ok-outcome.ensures.behind c.in_ok-outcome.ensures.added
-    c.in_ok-outcome.ensures.counted h)
+    c.in_ok-outcome.ensures.counted c.in_ok-outcome.ensures.layers h)
     c.add_outcome.ensures
 
 pub walking::children-loop-i-init : goal.walking::children-loop-i-init
 walking::children-loop-i-init g t c = record {
   going = begins (guide_of (g.O.Opener.opens c.args.opener.now) c.args.kept.now) c.args.levels c.args.left
       c.args.path.now
-      (children_of c.args.t.now) (stage_of c.args.joined.now c.args.env.now c.args.done.now.items c.args.steps.now)
+      (children_of c.args.t.now) (stage_of c.args.joined.now c.args.env.now c.args.done.now.items c.args.steps.now
+      c.args.progress.now.layers.items)
       c.requires.nothing;
   done_ready = c.requires.done_ready;
   scopes = refl;
@@ -99,10 +102,13 @@ walking::children-loop-i-init g t c = record {
 pub walking::children-loop-i-preserved : goal.walking::children-loop-i-preserved
 walking::children-loop-i-preserved g t c = record {
   going = next (guide_of (g.O.Opener.opens c.args.opener.now) c.args.kept.now) c.args.levels c.args.left c.args.path.now
-      (children_of c.args.t.now) (stage_of c.args.joined.now c.args.env.now c.args.done.now.items c.args.steps.now)
-      c.loop-i.i (stage_of c.loop-i.joined c.loop-i.env c.loop-i.done.items c.loop-i.steps) c.loop-i.invariant.going
+      (children_of c.args.t.now) (stage_of c.args.joined.now c.args.env.now c.args.done.now.items c.args.steps.now
+      c.args.progress.now.layers.items)
+      c.loop-i.i (stage_of c.loop-i.joined c.loop-i.env c.loop-i.done.items c.loop-i.steps
+      c.loop-i.progress.layers.items) c.loop-i.invariant.going
       c.in-Some.kid.now c.in-Some.ensures (stage_of c.one_child.new.joined c.one_child.new.env
-      c.one_child.new.done.items c.one_child.new.steps)
+      c.one_child.new.done.items c.one_child.new.steps
+      c.one_child.new.progress.layers.items)
       (rw c.if-not-went.false at c.in_ok-went.ensures.comes);
   done_ready = c.in_ok-went.ensures.done_ready;
   scopes = c.in_ok-went.ensures.scopes ∙ c.loop-i.invariant.scopes;
@@ -121,17 +127,22 @@ walking::children-one_child-requires g t c κs within =
 pub walking::children-returns-then-not-went-clause-comes : goal.walking::children-returns-then-not-went-clause-comes
 walking::children-returns-then-not-went-clause-comes g t c =
     stops (guide_of (g.O.Opener.opens c.args.opener.now) c.args.kept.now) c.args.levels c.args.left c.args.path.now
-    (children_of c.args.t.now) (stage_of c.args.joined.now c.args.env.now c.args.done.now.items c.args.steps.now)
-    c.loop-i.i (stage_of c.loop-i.joined c.loop-i.env c.loop-i.done.items c.loop-i.steps) c.loop-i.invariant.going
+    (children_of c.args.t.now) (stage_of c.args.joined.now c.args.env.now c.args.done.now.items c.args.steps.now
+    c.args.progress.now.layers.items)
+    c.loop-i.i (stage_of c.loop-i.joined c.loop-i.env c.loop-i.done.items c.loop-i.steps
+    c.loop-i.progress.layers.items) c.loop-i.invariant.going
     c.in-Some.kid.now c.in-Some.ensures (stage_of c.one_child.new.joined c.one_child.new.env
-    c.one_child.new.done.items c.one_child.new.steps)
+    c.one_child.new.done.items c.one_child.new.steps
+    c.one_child.new.progress.layers.items)
     (rw c.if-not-went.true at c.in_ok-went.ensures.comes)
 
 pub walking::children-returns-clause-comes : goal.walking::children-returns-clause-comes
 walking::children-returns-clause-comes g t c =
     ends (guide_of (g.O.Opener.opens c.args.opener.now) c.args.kept.now) c.args.levels c.args.left c.args.path.now
-    (children_of c.args.t.now) (stage_of c.args.joined.now c.args.env.now c.args.done.now.items c.args.steps.now)
-    c.loop-i.i (stage_of c.loop-i.joined c.loop-i.env c.loop-i.done.items c.loop-i.steps) c.loop-i.invariant.going
+    (children_of c.args.t.now) (stage_of c.args.joined.now c.args.env.now c.args.done.now.items c.args.steps.now
+    c.args.progress.now.layers.items)
+    c.loop-i.i (stage_of c.loop-i.joined c.loop-i.env c.loop-i.done.items c.loop-i.steps
+    c.loop-i.progress.layers.items) c.loop-i.invariant.going
     (omega (arith, c.loop-i-test.false, c.loop-i.auto.i-end, c.arity-i-end.ensures))
 
 pub walking::document-returns-then-left-eq0-clause-exact : goal.walking::document-returns-then-left-eq0-clause-exact
@@ -155,7 +166,8 @@ walking::document-document_of-requires g t c = record {
       c.requires.opens
       c.requires.some (omega arith) (so_far_of c.new-joined.result) (so_far_of c.children.new.joined)
       (before_of c.args.env.now) (before_of c.children.new.env) c.args.done.now.items c.children.new.done.items
-      c.args.steps.now c.children.new.steps c.requires.unshelled c.in_ok-went.went c.in_ok-went.ensures.comes
+      c.args.steps.now c.children.new.steps c.args.progress.now.layers.items c.children.new.progress.layers.items
+      c.requires.unshelled c.in_ok-went.went c.in_ok-went.ensures.comes
       c.requires.levels
       c.requires.left c.size-size.ensures.within;
 }
@@ -167,7 +179,8 @@ walking::document-returns-clause-exact g t c =
     c.args.path.now c.args.t.now c.requires.opens
     c.requires.some (omega arith) (so_far_of c.new-joined.result) (so_far_of c.children.new.joined)
     (before_of c.args.env.now) (before_of c.children.new.env) c.args.done.now.items c.children.new.done.items
-    c.args.steps.now c.children.new.steps c.requires.unshelled c.in_ok-went.went c.in_ok-went.ensures.comes)
+    c.args.steps.now c.children.new.steps c.args.progress.now.layers.items c.children.new.progress.layers.items
+    c.requires.unshelled c.in_ok-went.went c.in_ok-went.ensures.comes)
     c.document_of.ensures.outcome
 
 pub walking::document-returns-clause-behind : goal.walking::document-returns-clause-behind
@@ -179,7 +192,8 @@ walking::document-returns-clause-behind g t c =
     c.requires.opens
     c.requires.some (omega arith) (so_far_of c.new-joined.result) (so_far_of c.children.new.joined)
     (before_of c.args.env.now) (before_of c.children.new.env) c.args.done.now.items c.children.new.done.items
-    c.args.steps.now c.children.new.steps c.requires.unshelled c.in_ok-went.went c.in_ok-went.ensures.comes))
+    c.args.steps.now c.children.new.steps c.args.progress.now.layers.items c.children.new.progress.layers.items
+    c.requires.unshelled c.in_ok-went.went c.in_ok-went.ensures.comes))
     c.document_of.ensures.outcome
 
 pub walking::document-returns-clause-added : goal.walking::document-returns-clause-added
@@ -194,7 +208,22 @@ walking::document-returns-clause-added g t c =
     c.requires.opens
     c.requires.some (omega arith) (so_far_of c.new-joined.result) (so_far_of c.children.new.joined)
     (before_of c.args.env.now) (before_of c.children.new.env) c.args.done.now.items c.children.new.done.items
-    c.args.steps.now c.children.new.steps c.requires.unshelled c.in_ok-went.went c.in_ok-went.ensures.comes))
+    c.args.steps.now c.children.new.steps c.args.progress.now.layers.items c.children.new.progress.layers.items
+    c.requires.unshelled c.in_ok-went.went c.in_ok-went.ensures.comes))
+    c.document_of.ensures.outcome
+
+pub walking::document-returns-clause-layers : goal.walking::document-returns-clause-layers
+walking::document-returns-clause-layers g t c =
+    IfOk-weaker c.document_of.result _ _
+    (λ o h. subst (AreKnownBy (shells_by (g.O.Opener.opens c.args.opener.now)) c.args.levels c.args.left c.args.t.now
+    (before_of c.args.env.now) c.args.progress.now.layers.items c.children.new.progress.layers.items) (sym h)
+    (comes_known (guide_of (g.O.Opener.opens c.args.opener.now) c.args.kept.now) c.args.levels c.args.left
+    c.args.path.now c.args.t.now
+    c.requires.opens
+    c.requires.some (omega arith) (so_far_of c.new-joined.result) (so_far_of c.children.new.joined)
+    (before_of c.args.env.now) (before_of c.children.new.env) c.args.done.now.items c.children.new.done.items
+    c.args.steps.now c.children.new.steps c.args.progress.now.layers.items c.children.new.progress.layers.items
+    c.requires.unshelled c.in_ok-went.went c.in_ok-went.ensures.comes))
     c.document_of.ensures.outcome
 
 pub walking::document-returns-clause-counted : goal.walking::document-returns-clause-counted
@@ -205,7 +234,8 @@ walking::document-returns-clause-counted g t c =
     c.requires.opens
     c.requires.some (omega arith) (so_far_of c.new-joined.result) (so_far_of c.children.new.joined)
     (before_of c.args.env.now) (before_of c.children.new.env) c.args.done.now.items c.children.new.done.items
-    c.args.steps.now c.children.new.steps c.requires.unshelled c.in_ok-went.went c.in_ok-went.ensures.comes)
+    c.args.steps.now c.children.new.steps c.args.progress.now.layers.items c.children.new.progress.layers.items
+    c.requires.unshelled c.in_ok-went.went c.in_ok-went.ensures.comes)
 
 pub walking::set_inside-walk_tree-requires : goal.walking::set_inside-walk_tree-requires
 walking::set_inside-walk_tree-requires g t c κs within =
@@ -287,6 +317,18 @@ walking::scope_with-returns-clause-added g t c =
     c.args.done.now.items c.inside.new.done.items h c.in_ok-outcome.ensures.added)
     c.with_of.ensures.outcome
 
+pub walking::scope_with-returns-clause-layers : goal.walking::scope_with-returns-clause-layers
+walking::scope_with-returns-clause-layers g t c =
+    IfOk-weaker c.with_of.result _ _ (λ o h.
+    closed_known c.args.levels c.args.left c.args.path.now c.args.t.now c.args.settings c.requires.scope
+    c.requires.some (guide_of (g.O.Opener.opens c.args.opener.now) c.args.kept.now) c.if-settings-left.false
+    c.in-Some.inner.now (c.arity-last.result - 1)
+    c.arity-last.result c.arity-last.ensures refl c.in-Some.ensures (c.args.left - 1 - c.args.settings.cost) refl
+    c.args.env.now.map c.deref.result.now c.deref.ensures.value (wide_outcome c.in_ok-outcome.outcome) (wide_outcome o)
+    c.requires.unshelled
+    c.args.progress.now.layers.items c.inside.new.progress.layers.items h c.in_ok-outcome.ensures.layers)
+    c.with_of.ensures.outcome
+
 pub walking::scope_with-returns-clause-counted : goal.walking::scope_with-returns-clause-counted
 walking::scope_with-returns-clause-counted g t c =
     any_ok c.with_of.result _
@@ -352,6 +394,39 @@ walking::set_inside-returns-clause-added g t c =
     (c.args.path.now ++ c.args.i ∷ []) c.args.t.now (get m)) c.in_ok-set_all.ensures.map) h)
     c.walk_tree.ensures.added
 
+pub walking::inside-returns-clause-layers : goal.walking::inside-returns-clause-layers
+walking::inside-returns-clause-layers g t c =
+    IfOk-weaker c.set_inside-outcome.result _ _
+    (λ o h. subst (λ m. AreKnownBy (shells_by (g.O.Opener.opens c.args.opener.now)) c.args.levels c.args.left
+    c.args.t.now (get (overlaid m c.args.pairs.now)) c.args.progress.now.layers.items
+    c.set_inside-outcome.new.progress.layers.items (wide_outcome o)) c.enter-mark.ensures.map h)
+    c.set_inside-outcome.ensures.layers
+
+pub layering::inside_layer-returns-clause-layers : goal.layering::inside_layer-returns-clause-layers
+layering::inside_layer-returns-clause-layers g t c =
+    IfOk-weaker c.set_layer-outcome.result _ _
+    (λ o h. subst (λ m. AreKnownIn (shells_by (g.O.Opener.opens c.args.opener.now)) c.args.levels
+    (wide_layers c.args.layers.now) c.args.left c.args.t.now (get (overlaid m c.args.pairs.now))
+    c.args.progress.now.layers.items c.set_layer-outcome.new.progress.layers.items (wide_outcome o))
+    c.enter-mark.ensures.map h)
+    c.set_layer-outcome.ensures.layers
+
+pub walking::set_inside-returns-clause-layers : goal.walking::set_inside-returns-clause-layers
+walking::set_inside-returns-clause-layers g t c =
+    IfOk-weaker c.walk_tree.result _ _
+    (λ o h. subst (λ m. AreKnownBy (shells_by (g.O.Opener.opens c.args.opener.now)) c.args.levels c.args.left
+    c.args.t.now (get m) c.args.progress.now.layers.items c.walk_tree.new.progress.layers.items (wide_outcome o))
+    c.in_ok-set_all.ensures.map h)
+    c.walk_tree.ensures.layers
+
+pub layering::set_layer-returns-clause-layers : goal.layering::set_layer-returns-clause-layers
+layering::set_layer-returns-clause-layers g t c =
+    IfOk-weaker c.in_layers.result _ _
+    (λ o h. subst (λ m. AreKnownIn (shells_by (g.O.Opener.opens c.args.opener.now)) c.args.levels
+    (wide_layers c.args.layers.now) c.args.left c.args.t.now (get m) c.args.progress.now.layers.items
+    c.in_layers.new.progress.layers.items (wide_outcome o)) c.in_ok-set_all.ensures.map h)
+    c.in_layers.ensures.layers
+
 pub layering::set_layer-returns-clause-added : goal.layering::set_layer-returns-clause-added
 layering::set_layer-returns-clause-added g t c =
     IfOk-weaker c.in_layers.result _ _
@@ -398,6 +473,23 @@ layering::in_layers-returns-in-None-clause-added g t c =
     c.in-None.ensures.cases))) h)
     c.in_child.ensures.added
 
+pub layering::in_layers-returns-in-None-clause-layers : goal.layering::in_layers-returns-in-None-clause-layers
+layering::in_layers-returns-in-None-clause-layers g t c =
+    IfOk-weaker c.in_child.result _ _
+    (λ o h. subst (λ ls. AreKnownIn (shells_by (g.O.Opener.opens c.args.opener.now)) c.args.levels (wide_layers ls)
+    c.args.left c.args.t.now (before_of c.args.env.now) c.args.progress.now.layers.items
+    c.in_child.new.progress.layers.items (wide_outcome o)) (sym (none_first c.args.layers.now
+    c.in-None.ensures.cases)) h)
+    c.in_child.ensures.layers
+
+pub layering::in_layers-returns-in-Some-clause-layers : goal.layering::in_layers-returns-in-Some-clause-layers
+layering::in_layers-returns-in-Some-clause-layers g t c =
+    IfOk-weaker c.in_layer.result _ _
+    (λ o h. subst (λ ls. AreKnownIn (shells_by (g.O.Opener.opens c.args.opener.now)) c.args.levels (wide_layers ls)
+    c.args.left c.args.t.now (before_of c.args.env.now) c.args.progress.now.layers.items
+    c.in_layer.new.progress.layers.items (wide_outcome o)) (sym c.in-Some.ensures.cases.0) h)
+    c.in_layer.ensures.layers
+
 pub layering::in_layers-returns-in-Some-clause-added : goal.layering::in_layers-returns-in-Some-clause-added
 layering::in_layers-returns-in-Some-clause-added g t c =
     IfOk-weaker c.in_layer.result _ _
@@ -433,6 +525,14 @@ layering::in_child-returns-clause-added g t c =
     c.args.levels c.args.left c.args.i c.args.path.now c.args.t.now (before_of c.args.env.now) c.requires.some
     c.requires.allowed))
     c.stepped.ensures.outcome c.in_ok-outcome.ensures.added
+
+pub layering::in_child-returns-clause-layers : goal.layering::in_child-returns-clause-layers
+layering::in_child-returns-clause-layers g t c =
+    child_known (guide_of (g.O.Opener.opens c.args.opener.now) c.args.kept.now)
+    c.args.levels c.args.left c.args.i c.args.path.now c.args.t.now (before_of c.args.env.now) c.requires.some
+    c.requires.allowed c.args.progress.now.layers.items c.walk_tree.new.progress.layers.items
+    (wide_outcome c.in_ok-outcome.outcome) (wide_outcome c.stepped.result) c.stepped.ensures.outcome
+    c.in_ok-outcome.ensures.layers
 
 pub layering::in_child-returns-clause-counted : goal.layering::in_child-returns-clause-counted
 layering::in_child-returns-clause-counted g t c =
@@ -523,6 +623,21 @@ layering::shelled-returns-clause-added g t c =
     c.requires.shelled c.in-Some.ensures c.requires.some)) h c.in_ok-outcome.ensures.added)
     c.tag_of.ensures.outcome
 
+pub layering::shelled-returns-clause-layers : goal.layering::shelled-returns-clause-layers
+layering::shelled-returns-clause-layers g t c =
+    IfOk-weaker c.tag_of.result _ _
+    (λ o h. tag_known (guide_of (g.O.Opener.opens c.args.opener.now) c.args.kept.now)
+    c.args.levels c.args.left c.args.path.now c.args.t.now (wide_shell c.args.shell.now) c.in-Some.inner.now
+    (before_of c.args.env.now) (sheller_is (g.O.Opener.opens c.args.opener.now) (g.met.O.Opener.sound
+    c.args.opener.now))
+    c.requires.shelled c.in-Some.ensures c.requires.some (from_entries c.in_ok-look.look)
+    c.args.progress.now.layers.items c.in_layers.new.progress.layers.items (wide_outcome c.in_ok-outcome.outcome)
+    (wide_outcome o) h (subst (λ ls. AreKnownIn (shells_by (g.O.Opener.opens c.args.opener.now)) (c.args.levels - 1)
+    (wide_layers ls) (c.args.left - 1) c.in-Some.inner.now (before_of c.args.env.now)
+    c.args.progress.now.layers.items c.in_layers.new.progress.layers.items (wide_outcome c.in_ok-outcome.outcome))
+    c.deref.ensures.value c.in_ok-outcome.ensures.layers))
+    c.tag_of.ensures.outcome
+
 pub layering::shelled-returns-clause-counted : goal.layering::shelled-returns-clause-counted
 layering::shelled-returns-clause-counted g t c =
     any_ok c.tag_of.result _ (c.in_ok-outcome.ensures.counted
@@ -579,11 +694,21 @@ layering::through_layer-returns-clause-counted g t c =
     c.behind_values.ensures.counted (stage_in c.args.so_far.now c.args.env.now c.args.steps.now)
     (rw c.if-not-went.false at c.in_ok-went.ensures.comes)
 
+pub layering::through_layer-returns-clause-layers : goal.layering::through_layer-returns-clause-layers
+layering::through_layer-returns-clause-layers g t c =
+    IfOk-weaker c.behind_values.result _ _
+    (λ o h. subst (λ ms. AreKnownIn (shells_by (g.O.Opener.opens c.args.opener.now)) c.args.levels
+    (wide_layer c.args.layer.now ∷ wide_layers c.args.inner.now) c.args.left c.args.t.now (before_of c.args.env.now)
+    ms.items c.behind_values.new.progress.layers.items (wide_outcome o)) c.in_ok-went.ensures.layers h)
+    (c.behind_values.ensures.layers (stage_in c.args.so_far.now c.args.env.now c.args.steps.now)
+    (rw c.if-not-went.false at c.in_ok-went.ensures.comes))
+
 pub layering::behind_values-overflow_add-so_far : goal.layering::behind_values-overflow_add-so_far
 layering::behind_values-overflow_add-so_far g t c =
     omega (
       arith,
-      values_cost (c.args.levels - 1) (c.args.left - 1) (wide_layer c.args.layer.now) c.requires.comes.0
+      values_cost (holder_of c.args.kept.now) (c.args.levels - 1) (c.args.left - 1)
+          (wide_layer c.args.layer.now) c.requires.comes.0
           (stage_in c.args.so_far.now c.args.env.now c.args.steps.now) c.requires.comes.1,
       c.requires.left,
     )
@@ -687,6 +812,31 @@ layering::behind_values-returns-clause-added g t c =
     (c.deref-4.ensures.value ∙ sym c.deref-3.ensures.value) h) c.in_ok-outcome.ensures.added)
     c.layer_of.ensures.outcome
 
+pub layering::behind_values-returns-in_default-clause-layers :
+    goal.layering::behind_values-returns-in_default-clause-layers
+layering::behind_values-returns-in_default-clause-layers g t c = λ s d. tt
+
+pub layering::behind_values-returns-clause-layers : goal.layering::behind_values-returns-clause-layers
+layering::behind_values-returns-clause-layers g t c =
+    λ s d. IfOk-weaker c.layer_of.result _ _
+    (λ o h. inside_known (guide_of (g.O.Opener.opens c.args.opener.now) c.args.kept.now)
+    (sheller_is (g.O.Opener.opens c.args.opener.now) (g.met.O.Opener.sound c.args.opener.now)) c.args.levels c.args.left
+    c.args.i c.args.path.now
+    (wide_layer c.args.layer.now) (wide_layers c.args.inner.now) c.args.t.now s c.requires.some
+    (stage_in c.args.so_far.now c.args.env.now c.args.steps.now) d c.in-Some.cost
+    (c.args.left - c.in-Some.cost)
+    (c.in-Some.ensures.0 ∙ ap (λ ss. (1 + c.args.so_far.now.joined.cost) + set_sizes (pairs_of_settings ss))
+    c.deref.ensures.value) c.in-Some.ensures.1 refl c.args.env.now.map refl c.deref-3.result.now
+    (c.deref-3.ensures.value ∙ c.in_ok-pairs.ensures.pairs ∙ ap pairs_of_settings c.deref-2.ensures.value)
+    c.args.progress.now.layers.items c.pairs_to_set.new.progress.layers.items
+    c.inside_layer.new.progress.layers.items (wide_outcome c.in_ok-outcome.outcome) (wide_outcome o)
+    c.in_ok-pairs.ensures.more (subst (AllHeldBy (holds_in c.pairs_to_set.new.progress.layers.items))
+    c.deref-2.ensures.value c.in_ok-pairs.ensures.held)
+    (subst (λ ps. wide_outcome o ≡ option_map (layer_by (overlaid empty ps) (so_far_of c.args.so_far.now.joined)
+    c.in-Some.cost) (wide_outcome c.in_ok-outcome.outcome))
+    (c.deref-4.ensures.value ∙ sym c.deref-3.ensures.value) h) c.in_ok-outcome.ensures.layers)
+    c.layer_of.ensures.outcome
+
 pub layering::behind_values-returns-clause-counted : goal.layering::behind_values-returns-clause-counted
 layering::behind_values-returns-clause-counted g t c =
     λ s d. any_ok c.layer_of.result _
@@ -700,12 +850,13 @@ layering::behind_values-returns-clause-counted g t c =
     c.deref.ensures.value) c.in-Some.ensures.1 refl c.args.env.now.map refl c.deref-3.result.now
     (c.deref-3.ensures.value ∙ c.in_ok-pairs.ensures.pairs ∙ ap pairs_of_settings c.deref-2.ensures.value)
     c.pairs_to_set.new.steps c.inside_layer.new.steps
-    (c.in_ok-pairs.ensures.counted ∙ ap (λ ss. c.args.steps.now + set_nodes (pairs_of_settings ss))
+    (c.in_ok-pairs.ensures.counted ∙ ap (λ ss. c.args.steps.now + new_nodes ss)
     c.deref-2.ensures.value) c.in_ok-outcome.ensures.counted)
 
 pub layering::through_layer-behind_values-requires : goal.layering::through_layer-behind_values-requires
 layering::through_layer-behind_values-requires g t c κs within =
-    let done : (s : LayerStage) × LayerDone (c.args.levels - 1) (c.args.left - 1) (wide_layer c.args.layer.now) s
+    let done : (s : LayerStage) × LayerDone (holder_of c.args.kept.now) (c.args.levels - 1) (c.args.left - 1)
+    (wide_layer c.args.layer.now) s
     (stage_in c.add_layer.new.self c.add_layer.new.env c.add_layer.new.steps) = (
       stage_in c.args.so_far.now c.args.env.now c.args.steps.now,
       rw c.if-not-went.false at c.in_ok-went.ensures.comes,

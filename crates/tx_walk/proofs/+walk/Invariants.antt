@@ -61,8 +61,8 @@ decreases-layering::set_layer g l = 16 * l.levels + 1
 abbrev pub invariant-walking::children-loop-i : goal.invariant-walking::children-loop-i
 invariant-walking::children-loop-i g l = record {
   going : Going (guide_of (g.O.Opener.opens l.opener) l.kept) l.levels l.left l.path (children_of l.t)
-      (stage_of l.fn.joined l.fn.env l.fn.done.items l.fn.steps) l.i
-      (stage_of l.joined l.env l.done.items l.steps);
+      (stage_of l.fn.joined l.fn.env l.fn.done.items l.fn.steps l.fn.progress.layers.items) l.i
+      (stage_of l.joined l.env l.done.items l.steps l.progress.layers.items);
   done_ready : All IsReady l.done.items;
   scopes : l.env.scopes ≡ l.fn.env.scopes;
   spent : RisesAlike l.fn.steps l.fn.progress.spent l.steps l.progress.spent;

@@ -1,6 +1,7 @@
 use Rattle.std.proofs.Common.{arith, sym, subst, drop, slice_index_or}
 use Rattle.std.proofs.lemmas.List.Elements.{All-set}
 use Rattle.std.specs.Prelude.{IfSome, slice_get, option_copied}
+use Rattle.tx_parts.specs.Opening.{shells_by}
 use Rattle.tx_bridge.specs.declared.bridge.Bridge.{Bridge}
 use Rattle.tx_bridge.specs.HeldParts.{kept_parts}
 use Rattle.tx_bridge.specs.Sound.{IsSound, entry_of}
@@ -12,7 +13,8 @@ use Rattle.tx_bridge.proofs.bridges.refresh_all.Goals as goal
 
 pub refresh-requires-clause-settled : goal.refresh-requires-clause-settled
 refresh-requires-clause-settled g c =
-    agrees_next c.args.bridges.now c.loop-i.bridges (spares_in c.args.spare.now) c.args.start c.loop-i.i
+    agrees_next (shells_by (g.O.Opener.opens c.args.opener.now)) c.args.bridges.now c.loop-i.bridges
+    (spares_in c.args.spare.now) c.args.start c.loop-i.i
     c.loop-i.moment
     c.loop-i.still c.args.steps.now c.loop-i.steps c.loop-i.charges c.loop-i.invariant (omega arith)
     c.index-bridges-i.result
@@ -22,7 +24,8 @@ refresh-requires-clause-spare g c =
     subst (λ o. IfSome o (IsSpareOf (slice_index_or c.loop-i.bridges c.loop-i.i c.index-bridges-i.result).unit))
     (sym c.lent_at-other.ensures)
     (lent_here c.args.spare.now c.args.bridges.now c.loop-i.i _ _ c.requires.spare c.requires.same
-    (next_is c.args.bridges.now c.loop-i.bridges (spares_in c.args.spare.now) c.args.start c.loop-i.i
+    (next_is (shells_by (g.O.Opener.opens c.args.opener.now)) c.args.bridges.now c.loop-i.bridges
+    (spares_in c.args.spare.now) c.args.start c.loop-i.i
     c.loop-i.moment
     c.loop-i.still c.args.steps.now c.loop-i.steps c.loop-i.charges c.loop-i.invariant (omega arith)
     c.index-bridges-i.result))
@@ -30,7 +33,8 @@ refresh-requires-clause-spare g c =
 pub loop-i-preserved : goal.loop-i-preserved
 loop-i-preserved g c =
     let b : Bridge = slice_index_or c.loop-i.bridges c.loop-i.i c.index-bridges-i.result in
-    next c.args.bridges.now c.loop-i.bridges (spares_in c.args.spare.now) c.args.start c.loop-i.i
+    next (shells_by (g.O.Opener.opens c.args.opener.now)) c.args.bridges.now c.loop-i.bridges
+    (spares_in c.args.spare.now) c.args.start c.loop-i.i
     c.loop-i.moment
     c.loop-i.still c.args.steps.now c.loop-i.steps c.loop-i.charges c.loop-i.invariant (omega arith)
     c.index-bridges-i.result c.refresh.new.self
@@ -41,7 +45,8 @@ loop-i-preserved g c =
       parts = c.in_ok-charge.ensures.parts;
     })
     c.in_ok-charge.ensures.flags c.in_ok-charge.ensures.renewed c.in_ok-charge.ensures.behind
-    (charged c.loop-i.moment (entry_of b) (kept_parts b.parts) (option_copied c.lent_at-other.result)
+    (charged (shells_by (g.O.Opener.opens c.args.opener.now)) c.loop-i.moment (entry_of b) (kept_parts b.parts)
+    (option_copied c.lent_at-other.result)
     (slice_get c.args.spare.now c.loop-i.i) (first_spare (drop c.loop-i.i (spares_in c.args.spare.now)))
     c.in_ok-charge.charge c.in_ok-charge.ensures.charge c.lent_at-other.ensures
     (first_lent c.args.spare.now c.loop-i.i))
@@ -57,7 +62,8 @@ returns-in_err-charge-clause-sound g c =
 
 pub returns-in_err-charge-clause-units : goal.returns-in_err-charge-clause-units
 returns-in_err-charge-clause-units g c =
-    units_next c.args.bridges.now c.loop-i.bridges (spares_in c.args.spare.now) c.args.start c.loop-i.i
+    units_next (shells_by (g.O.Opener.opens c.args.opener.now)) c.args.bridges.now c.loop-i.bridges
+    (spares_in c.args.spare.now) c.args.start c.loop-i.i
     c.loop-i.moment
     c.loop-i.still c.args.steps.now c.loop-i.steps c.loop-i.charges c.loop-i.invariant (omega arith)
     c.index-bridges-i.result c.refresh.new.self
@@ -65,7 +71,8 @@ returns-in_err-charge-clause-units g c =
 
 pub returns-in_err-charge-clause-sources : goal.returns-in_err-charge-clause-sources
 returns-in_err-charge-clause-sources g c =
-    sources_next c.args.bridges.now c.loop-i.bridges (spares_in c.args.spare.now) c.args.start c.loop-i.i
+    sources_next (shells_by (g.O.Opener.opens c.args.opener.now)) c.args.bridges.now c.loop-i.bridges
+    (spares_in c.args.spare.now) c.args.start c.loop-i.i
     c.loop-i.moment
     c.loop-i.still c.args.steps.now c.loop-i.steps c.loop-i.charges c.loop-i.invariant (omega arith)
     c.index-bridges-i.result c.refresh.new.self
@@ -73,7 +80,8 @@ returns-in_err-charge-clause-sources g c =
 
 pub returns-in_err-charge-clause-stays : goal.returns-in_err-charge-clause-stays
 returns-in_err-charge-clause-stays g c =
-    stays_next c.args.bridges.now c.loop-i.bridges (spares_in c.args.spare.now) c.args.start c.loop-i.i
+    stays_next (shells_by (g.O.Opener.opens c.args.opener.now)) c.args.bridges.now c.loop-i.bridges
+    (spares_in c.args.spare.now) c.args.start c.loop-i.i
     c.loop-i.moment
     c.loop-i.still c.args.steps.now c.loop-i.steps c.loop-i.charges c.loop-i.invariant (omega arith)
     c.index-bridges-i.result c.refresh.new.self
@@ -82,7 +90,8 @@ returns-in_err-charge-clause-stays g c =
 pub returns-in_err-charge-clause-refused : goal.returns-in_err-charge-clause-refused
 returns-in_err-charge-clause-refused g c =
     any_err c.from_residual.result
-    (stops c.args.bridges.now c.loop-i.bridges (spares_in c.args.spare.now) c.args.start c.loop-i.i
+    (stops (shells_by (g.O.Opener.opens c.args.opener.now)) c.args.bridges.now c.loop-i.bridges
+    (spares_in c.args.spare.now) c.args.start c.loop-i.i
     c.loop-i.moment
     c.loop-i.still c.args.steps.now c.loop-i.steps c.loop-i.charges c.loop-i.invariant (omega arith)
     c.index-bridges-i.result c.refresh.new.self

@@ -38,13 +38,14 @@ returns-in-Err-clause-readable g c h =
 pub returns-in-Ok-clause-alone : goal.returns-in-Ok-clause-alone
 returns-in-Ok-clause-alone g c = λ yes.
     alone_is c.args.lone (length c.args.units.now) c.args.bridges.now.kept c.refresh.new.self.kept
+    c.args.bridges.now.parts
     c.refresh.new.self.renewed c.in-Ok.ensures.renewed c.in-Ok.ensures.units c.in-Ok.ensures.stays
     (c.forget_renewed-alone.ensures.alone yes)
 
 pub returns-in-Ok-clause-left : goal.returns-in-Ok-clause-left
 returns-in-Ok-clause-left g c =
     let many : length c.refresh.new.self.renewed ≡ length c.refresh.new.self.kept =
-    ap length c.in-Ok.ensures.renewed ∙ reached_many beginning c.args.bridges.now.kept
+    ap length c.in-Ok.ensures.renewed ∙ reached_many beginning c.args.bridges.now.kept c.args.bridges.now.parts
     ∙ same_many c.args.bridges.now.kept c.refresh.new.self.kept c.in-Ok.ensures.units in
     left_laid c.args.bridges.now c.refresh.new.self c.args.units.now c.forget_renewed-alone.new.units
     c.requires.as_many c.in-Ok.ensures.units many c.in-Ok.ensures.stays c.forget_renewed-alone.ensures.shown

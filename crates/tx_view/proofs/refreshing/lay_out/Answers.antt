@@ -1,15 +1,15 @@
 use Rattle.std.proofs.Common.{List, sym, subst}
 use Rattle.tx_bridge.specs.Entries.{units_of}
 use Rattle.tx_unit_layout.specs.declared.shown.Shown.{Shown}
-use Rattle.tx_view.specs.Laid.{AreLaid, stores_in}
+use Rattle.tx_view.specs.Laid.{AreLaid, view_stores_in}
 use Rattle.tx_view.specs.Stores.{IsPartlyFresh, fresh_stores}
 use Rattle.tx_view.proofs.Forgetting.{AllReadable, readable_left}
 use Rattle.tx_view.proofs.refreshing.lay_out.Goals as goal
 
 pub returns-in-Err-clause-refused : goal.returns-in-Err-clause-refused
 returns-in-Err-clause-refused g c =
-    subst (λ (xs : List Shown). IsPartlyFresh (stores_in c.args.bridges.now c.args.units.now)
-    (fresh_stores (units_of c.args.bridges.now.kept)) (stores_in c.lay_out_by.new.bridges xs))
+    subst (λ (xs : List Shown). IsPartlyFresh (view_stores_in c.args.bridges.now c.args.units.now)
+    (fresh_stores (units_of c.args.bridges.now.kept)) (view_stores_in c.lay_out_by.new.bridges xs))
     (sym c.forget_all_parts.ensures) c.in-Err.ensures.refused
 
 pub returns-in-Err-clause-laid : goal.returns-in-Err-clause-laid

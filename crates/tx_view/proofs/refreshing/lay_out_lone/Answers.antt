@@ -8,7 +8,7 @@ use Rattle.tx_bridge.specs.Names.{PartFlags}
 use Rattle.tx_bridge.specs.PartsKept.{fresh_parts_from}
 use Rattle.tx_unit_layout.specs.declared.shown.Shown.{Shown}
 use Rattle.tx_view.specs.Costs.{items_relaid_from}
-use Rattle.tx_view.specs.Laid.{AreLaid, items_unlaid_from, laid_in, laid_parts_in, stores_in}
+use Rattle.tx_view.specs.Laid.{AreLaid, items_unlaid_from, laid_in, laid_parts_in, view_stores_in}
 use Rattle.tx_view.specs.Lone.{KeepPages}
 use Rattle.tx_view.specs.Stores.{IsPartlyFresh, fresh_stores, attributes_from, laid_parts_from}
 use Rattle.tx_view.specs.Units.{unit_views}
@@ -186,8 +186,8 @@ returns-clause-laid_parts g c =
 pub returns-in_err-charges-clause-refused : goal.returns-in_err-charges-clause-refused
 returns-in_err-charges-clause-refused g c =
     any_err c.from_residual.result
-    (subst (λ (xs : List Shown). IsPartlyFresh (stores_in c.args.bridges.now c.args.units.now)
-    (fresh_stores (units_of c.args.bridges.now.kept)) (stores_in c.evaluate.new.bridges xs))
+    (subst (λ (xs : List Shown). IsPartlyFresh (view_stores_in c.args.bridges.now c.args.units.now)
+    (fresh_stores (units_of c.args.bridges.now.kept)) (view_stores_in c.evaluate.new.bridges xs))
     (sym c.in_err-charges.ensures.no_parts) c.in_err-charges.ensures.refused)
 
 pub returns-in_err-charges-clause-left : goal.returns-in_err-charges-clause-left

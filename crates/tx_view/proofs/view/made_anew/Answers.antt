@@ -5,7 +5,7 @@ use Rattle.tx_view_form.specs.Outcomes.{beginning}
 use Rattle.tx_bridge.specs.Entries.{units_of}
 use Rattle.tx_bridge.specs.Strays.{kept_strays}
 use Rattle.tx_unit_layout.specs.declared.shown.Shown.{Shown}
-use Rattle.tx_view.specs.Laid.{AreLaid, laid_in, laid_parts_in, stores_in}
+use Rattle.tx_view.specs.Laid.{AreLaid, laid_in, laid_parts_in, view_stores_in}
 use Rattle.tx_view.specs.Names.{Fresh, Bound}
 use Rattle.tx_view.specs.RowParts.{AreRowParts}
 use Rattle.tx_view.specs.Rows.{row_parts}
@@ -35,16 +35,17 @@ pub returns-in_err-work-clause-refused : goal.returns-in_err-work-clause-refused
 unfolding Fresh
 returns-in_err-work-clause-refused g c =
     any_err c.from_residual.result
-    (subst (λ (us : List DocUnit). IsPartlyFresh (stores_in c.args.bridges.now c.args.all.now) (fresh_stores us)
-    (stores_in c.lay_out.new.bridges c.lay_out.new.units)) c.requires.of_buffers c.in_err-work.ensures.refused)
+    (subst (λ (us : List DocUnit). IsPartlyFresh (view_stores_in c.args.bridges.now c.args.all.now) (fresh_stores us)
+    (view_stores_in c.lay_out.new.bridges c.lay_out.new.units)) c.requires.of_buffers c.in_err-work.ensures.refused)
 
 -- where the pages lack memory
 pub returns-in-Err-clause-refused : goal.returns-in-Err-clause-refused
 unfolding Fresh
 returns-in-Err-clause-refused g c =
-    subst (λ (xs : List Shown). IsPartlyFresh (stores_in c.args.bridges.now c.args.all.now)
-    (fresh_stores (units c.args.buffers.now)) (stores_in c.lay_out.new.bridges xs)) (sym c.forget_all_parts.ensures)
-    (all_fresh (stores_in c.args.bridges.now c.args.all.now) c.lay_out.new.bridges (units c.args.buffers.now)
+    subst (λ (xs : List Shown). IsPartlyFresh (view_stores_in c.args.bridges.now c.args.all.now)
+    (fresh_stores (units c.args.buffers.now)) (view_stores_in c.lay_out.new.bridges xs))
+    (sym c.forget_all_parts.ensures)
+    (all_fresh (view_stores_in c.args.bridges.now c.args.all.now) c.lay_out.new.bridges (units c.args.buffers.now)
     c.lay_out.new.units
     (all_made c.args.buffers.now c.args.bridges.now.kept c.lay_out.new.bridges.kept c.lay_out.new.bridges.parts
     (laid_in c.lay_out.new.units) (laid_parts_in c.lay_out.new.units) (kept_strays c.lay_out.new.bridges.strays)

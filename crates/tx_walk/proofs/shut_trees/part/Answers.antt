@@ -7,7 +7,8 @@ use Rattle.tx_exec.specs.Outcomes.{wide_trace, wide_outcome}
 use Rattle.tx_walk.specs.Prior.{stores_of}
 use Rattle.tx_walk.specs.Guides.{guide_of}
 use Rattle.tx_walk.proofs.Settled.{settled_exact, held_settles, own_fits, held_added, held_counted, new_added}
-use Rattle.tx_walk.proofs.Settled.{new_counted, any_ok, on_ok, both_ok, settles_as}
+use Rattle.tx_walk.proofs.Listing.{always_ok}
+use Rattle.tx_walk.proofs.Settled.{shut_known, new_counted, any_ok, on_ok, both_ok, settles_as}
 use Rattle.tx_walk.proofs.shut_trees.part.Goals as goal
 
 pub returns-in-Some-clause-exact : goal.returns-in-Some-clause-exact
@@ -39,6 +40,21 @@ returns-in-Some-clause-added g c =
     refl (own_fits (before_of c.args.env.now) c.args.path (stores_of c.args.kept.now) c.in-Some.held.part.now
     c.in-Some.held.renewed c.in-Some.ensures) p)
     c.held_part.ensures.settled c.held_part.ensures.pushed
+
+pub returns-in-Some-clause-layers : goal.returns-in-Some-clause-layers
+returns-in-Some-clause-layers g c =
+    always_ok c.held_part.result _
+    (λ o. shut_known (guide_of (g.O.Opener.opens c.args.opener.now) c.args.kept.now) c.args.levels c.args.left
+    c.args.t.now (before_of c.args.env.now) c.requires.unshelled c.requires.shut c.requires.some _ _ (wide_outcome o)
+    refl)
+
+pub returns-in-None-clause-layers : goal.returns-in-None-clause-layers
+returns-in-None-clause-layers g c =
+    always_ok c.new_part.result _
+    (λ o. shut_known (guide_of (g.O.Opener.opens c.args.opener.now) c.args.kept.now) c.args.levels c.args.left
+    c.args.t.now (before_of c.args.env.now) c.requires.unshelled c.requires.shut c.requires.some
+    c.args.progress.now.layers.items c.new_part.new.progress.layers.items (wide_outcome o)
+    (rw c.new_part.ensures.layers refl))
 
 pub returns-in-Some-clause-counted : goal.returns-in-Some-clause-counted
 returns-in-Some-clause-counted g c =

@@ -1,9 +1,12 @@
 use Rattle.std.proofs.Common.{◌≡◌, ◌∙◌, ◌++◌, ℕ, [], ap, subst, take, drop}
 use Rattle.std.specs.Prelude.{IfOk, OnOk, OnErr}
 use Rattle.tx_view_form.specs.Outcomes.{beginning}
+use Rattle.tx_bridge.specs.Moments.{beginning_with}
+use Rattle.tx_bridge.specs.Reached.{reached_from}
 use Rattle.tx_bridge.specs.Names.{Fresh, FreshParts, PartFlags, Charge}
 use Rattle.tx_bridge.specs.Names.{FreshFrom, FreshPartsFrom, PartFlagsFrom, ChargeFrom}
 use Rattle.tx_bridge.proofs.Spared.{nothing_charged}
+use Rattle.tx_parts.specs.LayerCosts.{holds_nothing}
 use Rattle.tx_bridge.proofs.bridges.Bridges.refresh.Goals as goal
 
 pub returns-clause-fresh : goal.returns-clause-fresh
@@ -25,13 +28,20 @@ returns-clause-parts_renewed g c =
     (c.refresh_from.new.self.part_flags ≡ PartFlagsFrom ps c.args.self.now.kept c.args.self.now.parts))
     (c.new-none.ensures ∙ c.new.ensures.items) c.refresh_from.ensures.parts_renewed
 
+pub returns-clause-renewed : goal.returns-clause-renewed
+returns-clause-renewed g c =
+    subst (λ ps. OnOk c.refresh_from.result (c.refresh_from.new.self.renewed
+    ≡ reached_from (beginning_with ps) c.args.self.now.kept c.args.self.now.parts))
+    (c.new-none.ensures ∙ c.new.ensures.items) c.refresh_from.ensures.renewed
+
 pub returns-clause-charge : goal.returns-clause-charge
 unfolding Charge ChargeFrom
 returns-clause-charge g c =
     subst (λ k. IfOk c.refresh_from.result (λ n. n ≡ k))
     (ap (λ ps. ChargeFrom ps c.args.self.now.kept c.args.self.now.parts [])
     (c.new-none.ensures ∙ c.new.ensures.items)
-    ∙ nothing_charged beginning c.args.self.now.kept c.args.self.now.parts) c.refresh_from.ensures.charge
+    ∙ nothing_charged (c.opened_cost_law.ensures.nothing holds_nothing) beginning c.args.self.now.kept c.args.self.now.parts)
+    c.refresh_from.ensures.charge
 
 pub returns-clause-refused : goal.returns-clause-refused
 unfolding Fresh FreshFrom FreshParts FreshPartsFrom

@@ -16,7 +16,7 @@ use Rattle.tx_view.specs.declared.view.View.TheInside.{Inside}
 use Rattle.tx_view.specs.Exchanged.{parts_after, strays_after, laid_parts_after, laid_strays_after}
 use Rattle.tx_view.specs.Laid.{laid_in, laid_parts_in}
 use Rattle.tx_view.specs.Names.{Carry}
-use Rattle.tx_view.specs.WholeViews.{WholeView, whole_of, stores_of, all_of}
+use Rattle.tx_view.specs.WholeViews.{WholeView, whole_of, view_stores_of, all_of}
 use Rattle.tx_view.proofs.Blank.{many_with}
 use Rattle.tx_view.proofs.Moved.{WasKept}
 use Rattle.tx_view.proofs.Staying.{carried_by, left_of}
@@ -146,7 +146,7 @@ returns-clause-ok g c =
       fresh = false;
       shown = record { units = []; pages = [] };
       row_parts = [];
-      stores = Carry c.args.buffer c.args.mods.now cs (stores_of c.self.inside)
+      stores = Carry c.args.buffer c.args.mods.now cs (view_stores_of c.self.inside)
           (with_tree cs c.args.buffer c.args.tree.now);
     }) c.deref-3.ensures.value
     ∙ ap (λ (w : WholeView). record w {

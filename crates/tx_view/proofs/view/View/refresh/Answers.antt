@@ -12,7 +12,7 @@ use Rattle.tx_bridge.specs.Strays.{kept_strays}
 use Rattle.tx_unit_layout.specs.LaidAts.{laid_at}
 use Rattle.tx_unit_layout.specs.declared.shown.Shown.{Shown}
 use Rattle.tx_view.specs.declared.view.View.TheInside.{Inside}
-use Rattle.tx_view.specs.Laid.{AreLaid, laid_in, laid_parts_in, stores_in}
+use Rattle.tx_view.specs.Laid.{AreLaid, laid_in, laid_parts_in, view_stores_in}
 use Rattle.tx_view.specs.Lone.{IsPaged}
 use Rattle.tx_view.specs.Names.{Bound, Fresh}
 use Rattle.tx_view.specs.RowParts.{AreRowParts}
@@ -99,13 +99,13 @@ invariant_of-self-2 g c =
 pub returns-clause-work : goal.returns-clause-work
 returns-clause-work g c = λ fresh.
     c.in_ok-paged.ensures.work
-    ∙ ap (λ (xs : List Shown). Bound (stores_in c.self.inside.bridges xs)) c.deref_mut.ensures.value
+    ∙ ap (λ (xs : List Shown). Bound (view_stores_in c.self.inside.bridges xs)) c.deref_mut.ensures.value
     ∙ bound_stale c.self.inside c.if-self.false ∙ ap (λ w. Bound w.stores) c.self.view_is
 
 pub returns-clause-counted : goal.returns-clause-counted
 returns-clause-counted g c = λ fresh.
     let work : c.in_ok-paged.work ≡ Bound c.args.self.now.stores =
     c.in_ok-paged.ensures.work
-    ∙ ap (λ (xs : List Shown). Bound (stores_in c.self.inside.bridges xs)) c.deref_mut.ensures.value
+    ∙ ap (λ (xs : List Shown). Bound (view_stores_in c.self.inside.bridges xs)) c.deref_mut.ensures.value
     ∙ bound_stale c.self.inside c.if-self.false ∙ ap (λ w. Bound w.stores) c.self.view_is in
     c.in_ok-paged.ensures.counted ∙ ap (λ n. c.args.steps.now + n) work

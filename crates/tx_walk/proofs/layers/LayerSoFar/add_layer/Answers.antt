@@ -1,6 +1,7 @@
 use Rattle.std.proofs.lemmas.Option.{slice_get_read}
 use Rattle.std.proofs.Common.{rules, refl, length, ◌∙◌, arith}
 use Rattle.tx_walk.specs.Layers.{stage_in}
+use Rattle.tx_walk.specs.Prior.{holder_of}
 use Rattle.tx_walk.specs.Shells.{wide_layer}
 use Rattle.tx_walk.proofs.Spending.{stays, rise_both}
 use Rattle.tx_walk.proofs.LayerSteps.{layer_begins, setting_next, setting_over, layer_ends}
@@ -8,10 +9,11 @@ use Rattle.tx_walk.proofs.layers.LayerSoFar.add_layer.Goals as goal
 
 pub loop-i-init : goal.loop-i-init
 loop-i-init g c = record {
-  going = layer_begins c.args.levels c.args.left (wide_layer c.args.layer.now)
+  going = layer_begins (holder_of c.args.kept.now) c.args.levels c.args.left (wide_layer c.args.layer.now)
       (stage_in c.args.self.now c.args.env.now c.args.steps.now) c.requires.joined c.requires.settings;
   scopes = refl;
   spent = stays c.args.steps.now c.args.progress.now.spent;
+  layers = refl;
 }
 
 pub add_setting-requires-clause-cost : goal.add_setting-requires-clause-cost
@@ -19,7 +21,7 @@ add_setting-requires-clause-cost g c = c.loop-i.invariant.going.cost
 
 pub returns-then-not-went-clause-comes : goal.returns-then-not-went-clause-comes
 returns-then-not-went-clause-comes g c =
-    setting_over c.args.levels c.args.left (wide_layer c.args.layer.now)
+    setting_over (holder_of c.args.kept.now) c.args.levels c.args.left (wide_layer c.args.layer.now)
     (stage_in c.args.self.now c.args.env.now c.args.steps.now) c.loop-i.i
     (stage_in c.loop-i.self c.loop-i.env c.loop-i.steps) c.loop-i.invariant.going c.index.result.now
     c.index-in-loop-i.result.now (slice_get_read c.args.layer.now.names.items (length c.args.layer.now.names.items)
@@ -33,7 +35,7 @@ returns-then-not-went-clause-comes g c =
 
 pub loop-i-preserved : goal.loop-i-preserved
 loop-i-preserved g c = record {
-  going = setting_next c.args.levels c.args.left (wide_layer c.args.layer.now)
+  going = setting_next (holder_of c.args.kept.now) c.args.levels c.args.left (wide_layer c.args.layer.now)
       (stage_in c.args.self.now c.args.env.now c.args.steps.now) c.loop-i.i
       (stage_in c.loop-i.self c.loop-i.env c.loop-i.steps) c.loop-i.invariant.going c.index.result.now
       c.index-in-loop-i.result.now (slice_get_read c.args.layer.now.names.items (length c.args.layer.now.names.items)
@@ -45,12 +47,13 @@ loop-i-preserved g c = record {
       (stage_in c.add_setting.new.self c.add_setting.new.env c.add_setting.new.steps)
       (rw c.if-not-went.false at c.in_ok-went.ensures.comes);
   scopes = c.in_ok-went.ensures.scopes ∙ c.loop-i.invariant.scopes;
+  layers = c.in_ok-went.ensures.layers ∙ c.loop-i.invariant.layers;
   spent = rise_both c.args.steps.now c.args.progress.now.spent c.loop-i.steps c.loop-i.progress.spent
       c.add_setting.new.steps c.add_setting.new.progress.spent c.loop-i.invariant.spent c.in_ok-went.ensures.spent;
 }
 
 pub returns-clause-comes : goal.returns-clause-comes
 returns-clause-comes g c =
-    layer_ends c.args.levels c.args.left (wide_layer c.args.layer.now)
+    layer_ends (holder_of c.args.kept.now) c.args.levels c.args.left (wide_layer c.args.layer.now)
     (stage_in c.args.self.now c.args.env.now c.args.steps.now) c.loop-i.i
     (stage_in c.loop-i.self c.loop-i.env c.loop-i.steps) c.loop-i.invariant.going (search rules) c.requires.full.0

@@ -1,0 +1,77 @@
+-- What units are charged.
+use Rattle.std.specs.Prelude.{ℕ, ◌+◌, Bool, not, ◌||◌, if◌then◌else◌, List, [], ◌∷◌, drop}
+use Rattle.std.specs.FinMap.{get}
+use Rattle.tx_exec_form.specs.declared.TheConstants.{MOST_LEVELS}
+use Rattle.tx_parts.specs.Opening.{Sheller, closed}
+use Rattle.tx_parts.specs.LayerCosts.{holds_nothing, layer_costs_by}
+use Rattle.tx_walk.specs.Guides.{Guide, charged}
+use Rattle.tx_walk.specs.Held.{Stores, only, charges}
+use Rattle.tx_units.specs.declared.kinds.Unit.{Unit as DocUnit}
+use Rattle.tx_view_form.specs.Outcomes.{Moment, allowance, charge, behind}
+use Rattle.tx_bridge.specs.Entries.{Entry, Kept, outcome_of}
+use Rattle.tx_bridge.specs.PartsKept.{KeptParts, kept_at, has_parts, unit_parts}
+use Rattle.tx_bridge.specs.Reached.{fits}
+use Rattle.tx_bridge.specs.Spares.{UnitSpare, Spares, first_spare, stores_with}
+
+-- ---- where trees have shells, and something is spare
+
+-- what layers cost of a unit with parts, which is evaluated at this moment
+abbrev pub layers_charge : Sheller → Moment → DocUnit → ℕ
+layers_charge sheller m u =
+    if has_parts u then layer_costs_by holds_nothing sheller MOST_LEVELS (allowance m) u.tagged.tree (get m.env) else 0
+
+-- what a walk goes by
+abbrev pub guide_with : Sheller → Stores → Guide
+guide_with sheller stores = record { stores = stores; sheller = sheller; holder = holds_nothing }
+
+-- what a unit with parts is charged: the costs of its parts that neither what is kept holds nor the spare, and those of
+-- layers
+abbrev pub parts_charge_by : Sheller → Moment → DocUnit → KeptParts → KeptParts → ℕ
+parts_charge_by sheller m u ps spare =
+    charged (guide_with sheller (stores_with ps spare)) MOST_LEVELS (allowance m) [] u.tagged.tree (get m.env)
+
+-- what another one is charged where it is evaluated: its cost, or nothing where the spare can be used
+abbrev pub whole_charge : Moment → DocUnit → UnitSpare → ℕ
+whole_charge m u s = if fits m s.trace then 0 else charge m (outcome_of m u)
+
+abbrev pub unit_charge_by : Sheller → Moment → DocUnit → KeptParts → UnitSpare → ℕ
+unit_charge_by sheller m u ps s =
+    if has_parts u then parts_charge_by sheller m u ps s.parts else whole_charge m u s
+
+-- A unit without parts isn't evaluated where what is kept of it can be used. One with parts is charged by these alone:
+-- nothing, where all are held and no layer is evaluated.
+abbrev pub is_charged : Moment → Entry → Bool
+is_charged m e = has_parts e.unit || not (fits m e.trace)
+
+abbrev pub charge_by : Sheller → Moment → Entry → KeptParts → UnitSpare → ℕ
+charge_by sheller m e ps s = if is_charged m e then unit_charge_by sheller m e.unit ps s else 0
+
+-- the charges of all units, the first at this moment and each other one behind those before it
+abbrev pub charges_by : Sheller → Moment → Kept → List KeptParts → Spares → ℕ
+charges_by sheller m [] pss ss = 0
+charges_by sheller m (e ∷ es) [] ss = 0
+charges_by sheller m (e ∷ es) (ps ∷ pss) ss =
+    charge_by sheller m e ps (first_spare ss)
+    + charges_by sheller (behind m (outcome_of m e.unit)) es pss (drop 1 ss)
+
+-- ---- where nothing has a shell
+
+abbrev pub charge_with : Moment → Entry → KeptParts → UnitSpare → ℕ
+charge_with m e ps s = charge_by closed m e ps s
+
+abbrev pub charges_with : Moment → Kept → List KeptParts → Spares → ℕ
+charges_with m es pss ss = charges_by closed m es pss ss
+
+-- ---- and nothing is spare
+
+abbrev pub unit_charge : Moment → DocUnit → KeptParts → ℕ
+unit_charge m u ps =
+    if has_parts u then charges (only (kept_at ps)) (unit_parts m u) else charge m (outcome_of m u)
+
+abbrev pub charge_of : Moment → Entry → KeptParts → ℕ
+charge_of m e ps = if is_charged m e then unit_charge m e.unit ps else 0
+
+abbrev pub charges_from : Moment → Kept → List KeptParts → ℕ
+charges_from m [] pss = 0
+charges_from m (e ∷ es) [] = 0
+charges_from m (e ∷ es) (ps ∷ pss) = charge_of m e ps + charges_from (behind m (outcome_of m e.unit)) es pss
