@@ -43,4 +43,5 @@ pub mod Left
 pub mod Refreshed
 pub mod CarriedInPlace
 pub mod CarriedAlong
+pub mod ReadByPath
 pub mod KeptAlong
