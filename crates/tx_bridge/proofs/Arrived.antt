@@ -40,6 +40,7 @@ with_given i b w = record {
   unit = w.unit;
   kept = b.kept;
   parts = b.parts;
+  layers = b.layers;
   shelled = b.shelled;
   renewed = w.renewed;
   source = Some i;

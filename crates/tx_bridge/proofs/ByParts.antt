@@ -4,7 +4,7 @@ use Rattle.std.proofs.Common.{◌≡◌, ℕ, ◌+◌, ◌≤◌, List, [], ◌�
 use Rattle.std.proofs.lemmas.Slice.Eq.{bytes_eq-Decides}
 use mathlib.Core.Path.{fun_ext}
 use Rattle.std.proofs.lemmas.List.Elements.{All-from_recursion}
-use Rattle.std.specs.Prelude.{Bool, true, false, ◌&&◌, is_some, if◌then◌else◌, min}
+use Rattle.std.specs.Prelude.{Bool, true, false, ◌&&◌, is_some, if◌then◌else◌, min, IfSome}
 use Rattle.std.specs.Option.{option_map}
 use Rattle.std.specs.List.{All, AllByRecursion, IsDistinct}
 use Rattle.std.specs.FinMap.{get}
@@ -22,10 +22,12 @@ use Rattle.tx_parts.specs.Composed.{alone, evaluates}
 use Rattle.tx_parts.specs.Opening.{Sheller, closed}
 use Rattle.tx_parts.specs.Shellers.{IsSheller}
 use Rattle.tx_parts.specs.Parts.{Part, parts, parts_by, part_trace, Stored, stored}
+use Rattle.tx_parts.specs.LayerCosts.{Holder, layer_costs_by}
 use Rattle.tx_parts.specs.Standing.{StandsIn}
 use Rattle.tx_walk.specs.declared.part.Part.{Part as DonePart}
 use Rattle.tx_walk.specs.Held.{Store, Stores, IsSound}
 use Rattle.tx_walk.specs.Guides.{charged}
+use Rattle.tx_walk.specs.LayerTraces.{TreeTrace, holds_in, holds_either}
 use Rattle.tx_walk.proofs.Charging.{charged_within}
 use Rattle.tx_walk.specs.Walked.{IsTidy, kept_in, stores_in, paths_of, Seen, seen, seen_in, seen_parts}
 use Rattle.tx_units.specs.declared.kinds.Unit.{Unit as DocUnit}
@@ -35,7 +37,7 @@ use Rattle.tx_bridge.specs.Entries.{outcome_of}
 use Rattle.tx_bridge.specs.PartsKept.{KeptParts, kept_at, has_parts, unit_parts_by, parts_if_done, fresh_parts_by}
 use Rattle.tx_bridge.specs.Reached.{fits}
 use Rattle.tx_bridge.specs.Spares.{UnitSpare, stores_with}
-use Rattle.tx_bridge.specs.Charges.{guide_with, parts_charge_by, whole_charge, unit_charge_by}
+use Rattle.tx_bridge.specs.Charges.{guide_with, parts_charge_by, whole_charge, unit_charge_by, LayersKnown}
 use Rattle.tx_bridge.specs.HeldParts.{HoldsPart, PartsHold, kept_part, kept_parts}
 use Rattle.tx_bridge.specs.UnitLists.{IsPlaced}
 use Rattle.tx_walk.proofs.Kept.{Alike, alike}
@@ -223,54 +225,69 @@ module _ (sheller : Sheller) (u : DocUnit) (m : Moment) (env : NameMap) (left a 
       ∙ ap (λ r. parts_if_done r (unit_parts_by sheller m u)) is
       ∙ sym (ap (λ b. if b then parts_if_done (outcome_of m u) (unit_parts_by sheller m u) else []) nested)
 
-  pub charge_there : (ks qs : List DonePart)
-      → charged (guide_with sheller (stores_in ks qs)) MOST_LEVELS a [] u.tagged.tree (get env)
-      ≡ parts_charge_by sheller m u (kept_parts ks) (kept_parts qs)
-  charge_there ks qs =
-      ap (λ n. charged (guide_with sheller (stores_in ks qs)) MOST_LEVELS n [] u.tagged.tree (get env))
+  pub charge_there : (ks qs : List DonePart) (ls rs : List TreeTrace)
+      → charged (guide_with sheller (stores_in ks qs) (holds_either ls rs)) MOST_LEVELS a [] u.tagged.tree (get env)
+      ≡ parts_charge_by sheller m u (kept_parts ks) (kept_parts qs) ls rs
+  charge_there ks qs ls rs =
+      let held : Holder = holds_either ls rs in
+      ap (λ n. charged (guide_with sheller (stores_in ks qs) held) MOST_LEVELS n [] u.tagged.tree (get env))
       (allowed_is u m env left a view is_a)
-      ∙ ap (charged (guide_with sheller (stores_in ks qs)) MOST_LEVELS (allowance m) [] u.tagged.tree)
+      ∙ ap (charged (guide_with sheller (stores_in ks qs) held) MOST_LEVELS (allowance m) [] u.tagged.tree)
       (names_are u m env left a view is_a)
-      ∙ ap (λ s. charged (guide_with sheller s) MOST_LEVELS (allowance m) [] u.tagged.tree (get m.env))
+      ∙ ap (λ s. charged (guide_with sheller s held) MOST_LEVELS (allowance m) [] u.tagged.tree (get m.env))
       (same_stores ks qs)
+
+  -- what a walk leaves of layers
+  pub known_there : (ls : List TreeTrace) (o : Option WideTrace) → has_parts u ≡ true → o ≡ outcome_of m u
+      → IfSome o (λ (trace : WideTrace). layer_costs_by (holds_in ls) sheller MOST_LEVELS a u.tagged.tree (get env) ≡ 0)
+      → LayersKnown sheller m u ls
+  known_there ls o nested is known trace comes =
+      ap (λ b. if b
+      then layer_costs_by (holds_in ls) sheller MOST_LEVELS (allowance m) u.tagged.tree (get m.env) else 0) nested
+      ∙ sym (ap (λ n. layer_costs_by (holds_in ls) sheller MOST_LEVELS n u.tagged.tree (get env))
+      (allowed_is u m env left a view is_a)
+      ∙ ap (layer_costs_by (holds_in ls) sheller MOST_LEVELS (allowance m) u.tagged.tree)
+      (names_are u m env left a view is_a))
+      ∙ subst (λ r. IfSome r (λ (t : WideTrace).
+      layer_costs_by (holds_in ls) sheller MOST_LEVELS a u.tagged.tree (get env) ≡ 0)) (is ∙ comes) known
 
 -- ---- no more than the unit costs
 
-charge_most : (sheller : Sheller) → IsSheller sheller → (m : Moment) (u : DocUnit) (ks : KeptParts) (s : UnitSpare)
-    → IsPlaced u → unit_charge_by sheller m u ks s ≤ charge m (outcome_of m u)
+charge_most : (sheller : Sheller) → IsSheller sheller → (m : Moment) (u : DocUnit) (ks : KeptParts)
+    (ls : List TreeTrace) (s : UnitSpare) → IsPlaced u → unit_charge_by sheller m u ks ls s ≤ charge m (outcome_of m u)
 unfolding outcome
-charge_most sheller sound m u ks s placed = by (has_parts u) refl
+charge_most sheller sound m u ks ls s placed = by (has_parts u) refl
   where
     unused : (b : Bool) (n : ℕ) → (if b then 0 else n) ≤ n
     unused true n = omega arith
     unused false n = omega arith
 
-    by : (b : Bool) → has_parts u ≡ b → unit_charge_by sheller m u ks s ≤ charge m (outcome_of m u)
+    by : (b : Bool) → has_parts u ≡ b → unit_charge_by sheller m u ks ls s ≤ charge m (outcome_of m u)
     by true nested =
-        let is : unit_charge_by sheller m u ks s ≡ parts_charge_by sheller m u ks s.parts =
-        ap (λ b. if b then parts_charge_by sheller m u ks s.parts else whole_charge m u s) nested in
-        let most : parts_charge_by sheller m u ks s.parts
+        let is : unit_charge_by sheller m u ks ls s ≡ parts_charge_by sheller m u ks s.parts ls s.layers =
+        ap (λ b. if b then parts_charge_by sheller m u ks s.parts ls s.layers else whole_charge m u s) nested in
+        let most : parts_charge_by sheller m u ks s.parts ls s.layers
         ≤ paid (allowance m) (evaluates MOST_LEVELS (allowance m) u.tagged.tree (get m.env)) =
-        charged_within (guide_with sheller (stores_with ks s.parts)) sound MOST_LEVELS (allowance m) [] u.tagged.tree
-        (get m.env) in
+        charged_within (guide_with sheller (stores_with ks s.parts) (holds_either ls s.layers)) sound MOST_LEVELS
+        (allowance m) [] u.tagged.tree (get m.env) in
         let same : paid (allowance m) (evaluates MOST_LEVELS (allowance m) u.tagged.tree (get m.env))
         ≡ charge m (outcome_of m u) =
         ap (λ t. paid (allowance m) (evaluated_in MOST_LEVELS (allowance m) t (get m.env)))
         (sym (is_alone u placed nested)) in
         omega (arith, is, most, same)
     by false other =
-        let is : unit_charge_by sheller m u ks s ≡ whole_charge m u s =
-        ap (λ b. if b then parts_charge_by sheller m u ks s.parts else whole_charge m u s) other in
+        let is : unit_charge_by sheller m u ks ls s ≡ whole_charge m u s =
+        ap (λ b. if b then parts_charge_by sheller m u ks s.parts ls s.layers else whole_charge m u s) other in
         let most : whole_charge m u s ≤ charge m (outcome_of m u) =
         unused (fits m s.trace) (charge m (outcome_of m u)) in
         omega (arith, is, most)
 
 pub spent_most : (sheller : Sheller) → IsSheller sheller → AllAllowed → (m after : Moment) (u : DocUnit)
-    (ks : KeptParts) (s : UnitSpare) (n : ℕ) → IsPlaced u → n ≡ unit_charge_by sheller m u ks s
-    → after ≡ behind m (outcome_of m u) → n + after.left ≤ m.left
-spent_most sheller sound allowed m after u ks s n placed is at =
-    let most : unit_charge_by sheller m u ks s ≤ charge m (outcome_of m u) =
-    charge_most sheller sound m u ks s placed in
+    (ks : KeptParts) (ls : List TreeTrace) (s : UnitSpare) (n : ℕ) → IsPlaced u
+    → n ≡ unit_charge_by sheller m u ks ls s → after ≡ behind m (outcome_of m u) → n + after.left ≤ m.left
+spent_most sheller sound allowed m after u ks ls s n placed is at =
+    let most : unit_charge_by sheller m u ks ls s ≤ charge m (outcome_of m u) =
+    charge_most sheller sound m u ks ls s placed in
     let enough : charge m (outcome_of m u) ≤ m.left =
     charge_fits allowed m (outcome_of m u) (tagged_of u.tagged) refl in
     let left : after.left ≡ m.left - charge m (outcome_of m u) = ap (λ (k : Moment). k.left) at in

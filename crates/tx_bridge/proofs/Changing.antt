@@ -21,7 +21,7 @@ use Rattle.tx_bridge.specs.declared.bridge.Bridge.{Bridge}
 use Rattle.tx_bridge.specs.UnitLists.{AreUnits}
 use Rattle.tx_bridge.specs.Entries.{Kept, units_of}
 use Rattle.tx_bridge.specs.Settled.{AreSettled, IsSilent}
-use Rattle.tx_bridge.specs.Sound.{IsSound, AreRight, entry_of, entries_of, parts_in, sources_in}
+use Rattle.tx_bridge.specs.Sound.{IsSound, AreRight, entry_of, entries_of, parts_in, layers_in, sources_in}
 use Rattle.tx_bridge.specs.Sound.{changed_bridge, changed_in}
 use Rattle.tx_walk.specs.declared.part.Part.{Part as DonePart}
 use Rattle.tx_walk.specs.Walked.{paths_of}
@@ -54,6 +54,13 @@ many_changed : (i : ℕ) (t : WideTree) (ps : List DonePart) (bs : List Bridge)
 many_changed i t ps [] = refl
 many_changed zero t ps (b ∷ bs) = refl
 many_changed (suc i) t ps (b ∷ bs) = ap suc (many_changed i t ps bs)
+
+-- the layers stay
+pub layers_changed : (i : ℕ) (t : WideTree) (ps : List DonePart) (bs : List Bridge)
+    → layers_in (changed_in i t ps bs) ≡ layers_in bs
+layers_changed i t ps [] = refl
+layers_changed zero t ps (b ∷ bs) = refl
+layers_changed (suc i) t ps (b ∷ bs) = ap (λ lss. b.layers ∷ lss) (layers_changed i t ps bs)
 
 units_changed : (i : ℕ) (t : WideTree) (ps : List DonePart) (bs : List Bridge)
     → units_of (entries_of (changed_in i t ps bs)) ≡ units_with i t (units_of (entries_of bs))

@@ -19,6 +19,7 @@ with_parts b ps = record {
   unit = b.unit;
   kept = b.kept;
   parts = ps;
+  layers = b.layers;
   shelled = b.shelled;
   renewed = b.renewed;
   source = b.source;

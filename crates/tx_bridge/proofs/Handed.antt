@@ -30,6 +30,7 @@ module _ (place : Option (List ℕ)) (i : ℕ) (b : Bridge) where
     unit = w.unit;
     kept = b.kept;
     parts = b.parts;
+    layers = b.layers;
     shelled = b.shelled;
     renewed = w.renewed;
     source = Some i;

@@ -8,8 +8,9 @@ use Rattle.tx_exec_form.specs.Evaluated.{WideTrace}
 use Rattle.tx_exec.specs.Outcomes.{wide_outcome}
 use Rattle.tx_parts.specs.Opening.{Sheller, closed}
 use Rattle.tx_parts.specs.Shellers.{IsSheller}
-use Rattle.tx_parts.specs.LayerCosts.{holds_nothing, layer_costs_by}
+use Rattle.tx_parts.specs.LayerCosts.{Holder, layer_costs_by}
 use Rattle.tx_walk.specs.declared.part.Part.{Part as DonePart}
+use Rattle.tx_walk.specs.LayerTraces.{TreeTrace, holds_in, holds_either}
 use Rattle.tx_view_form.specs.Outcomes.{Moment, allowance}
 use Rattle.tx_bridge.specs.declared.bridge.Bridge.{Bridge}
 use Rattle.tx_bridge.specs.Entries.{outcome_of}
@@ -19,7 +20,7 @@ use Rattle.tx_bridge.specs.PartsKept.{flags_if_done, fresh_parts, fresh_parts_by
 use Rattle.tx_bridge.specs.HeldParts.{AreItsParts, kept_parts, flags_of_parts, unmarked}
 use Rattle.tx_bridge.specs.Sound.{IsSound, entry_of}
 use Rattle.tx_bridge.specs.Spares.{UnitSpare}
-use Rattle.tx_bridge.specs.Charges.{layers_charge, charge_by}
+use Rattle.tx_bridge.specs.Charges.{layers_charge, charge_by, LayersKnown}
 use Rattle.tx_bridge.proofs.ByParts.{outcome_there}
 use Rattle.tx_bridge.proofs.Marked.{left_flags}
 use Rattle.tx_bridge.proofs.Remaining.{AllTraced}
@@ -80,6 +81,19 @@ module _ (m : Moment) (b : Bridge) (sound : IsSound b) (sheller : Sheller) (shel
       ∙ sym (ap (λ a. if a then flags_if_done (outcome_of m b.unit) (kept_at (kept_parts b.parts))
       (unit_parts_by sheller m b.unit) else []) none))
 
+  -- no layer costs anything
+  left_free : LayersFree → (held : Holder) → layers_charge held sheller m b.unit ≡ 0
+  left_free free held =
+      sym (by_shells (λ s. layers_charge held s m b.unit)
+      (λ none. ap (λ a. if a then layer_costs_by held closed MOST_LEVELS (allowance m) b.unit.tagged.tree (get m.env)
+      else 0) none
+      ∙ sym (ap (λ a. if a then layer_costs_by held sheller MOST_LEVELS (allowance m) b.unit.tagged.tree (get m.env)
+      else 0) none)))
+      ∙ layers_free free held m b.unit
+
+  pub left_known : LayersFree → (ls : List TreeTrace) → LayersKnown sheller m b.unit ls
+  left_known free ls trace is = left_free free (holds_in ls)
+
   module _ (agree : AllAgree) (traced : AllTraced) (none_shelled : IsSheller closed) where
     stays_closed : unit_stays_by closed m (entry_of b) (kept_parts b.parts) ≡ true
     stays_closed =
@@ -114,13 +128,8 @@ module _ (m : Moment) (b : Bridge) (sound : IsSound b) (sheller : Sheller) (shel
     pub left_renewed : false ≡ not (unit_stays_by sheller m (entry_of b) (kept_parts b.parts))
     left_renewed = sym (ap not left_stays)
 
-    pub left_charge : AllDistinct → LayersFree → (s : UnitSpare)
-        → 0 ≡ charge_by sheller m (entry_of b) (kept_parts b.parts) s
-    left_charge distinct free s =
-        sym (staying_charged distinct sheller m (entry_of b) (kept_parts b.parts) s left_stays
-        ∙ sym (by_shells (λ s. layers_charge s m b.unit)
-        (λ none. ap (λ a. if a then layer_costs_by holds_nothing closed MOST_LEVELS (allowance m) b.unit.tagged.tree (get m.env)
-        else 0) none
-        ∙ sym (ap (λ a. if a then layer_costs_by holds_nothing sheller MOST_LEVELS (allowance m) b.unit.tagged.tree (get m.env)
-        else 0) none)))
-        ∙ layers_free free m b.unit)
+    pub left_charge : AllDistinct → LayersFree → (ls : List TreeTrace) (s : UnitSpare)
+        → 0 ≡ charge_by sheller m (entry_of b) (kept_parts b.parts) ls s
+    left_charge distinct free ls s =
+        sym (staying_charged distinct sheller m (entry_of b) (kept_parts b.parts) ls s left_stays
+        ∙ left_free free (holds_either ls s.layers))

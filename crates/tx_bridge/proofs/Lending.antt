@@ -3,24 +3,29 @@ use Rattle.std.proofs.Common.{◌≡◌, ℕ, zero, suc, ◌<◌, List, [], ◌�
 use Rattle.std.proofs.Common.{Option, Some, None, refl, ap, sym, subst, ◌∙◌}
 use Rattle.std.proofs.lemmas.Option.{same_Some, slice_get-get_or, slice_get_within}
 use Rattle.std.specs.Prelude.{true, false, if◌then◌else◌, IfSome, MatchOption, slice_get, map, zip}
+use Rattle.std.specs.FinMap.{get}
 use Rattle.std.specs.List.{All, AllByRecursion, IsDistinct}
 use Rattle.std.specs.Str.{bytes_eq}
 use Rattle.tx_origin.specs.TaggedTrees.{tagged_of}
 use Rattle.tx_exec.specs.Outcomes.{wide_outcome}
+use Rattle.tx_exec_form.specs.declared.TheConstants.{MOST_LEVELS}
 use Rattle.tx_parts.specs.Opening.{Sheller}
+use Rattle.tx_parts.specs.LayerCosts.{layer_costs_by}
+use Rattle.tx_walk.specs.LayerTraces.{TreeTrace, holds_in}
 use Rattle.tx_walk.specs.Walked.{paths_of}
 use Rattle.tx_units.specs.declared.kinds.Unit.{Unit as DocUnit}
-use Rattle.tx_view_form.specs.Outcomes.{Moment}
+use Rattle.tx_view_form.specs.Outcomes.{Moment, allowance}
 use Rattle.tx_bridge.specs.declared.bridge.Bridge.{Bridge}
 use Rattle.tx_bridge.specs.Bridged.{Bridged}
 use Rattle.tx_bridge.specs.Entries.{Entry, units_of, outcome_of}
 use Rattle.tx_bridge.specs.Reached.{fits}
 use Rattle.tx_bridge.specs.HeldParts.{HoldsPart, kept_parts}
-use Rattle.tx_bridge.specs.Sound.{Holds, IsSound, entries_of, parts_in}
+use Rattle.tx_bridge.specs.Sound.{Holds, IsSound, entries_of, parts_in, layers_in}
 use Rattle.tx_bridge.specs.PartsKept.{KeptParts, has_parts}
 use Rattle.tx_bridge.specs.Spares.{UnitSpare, first_spare, kept_spare, spares_of}
-use Rattle.tx_bridge.specs.Charges.{parts_charge_by, whole_charge, unit_charge_by, charge_by}
-use Rattle.tx_bridge.specs.Lent.{lent_spare, spare_of, spare_parts, spares_in, IsSpareOf, IsUsable, HaveUnitsOf}
+use Rattle.tx_bridge.specs.Charges.{parts_charge_by, whole_charge, unit_charge_by, charge_by, LayersKnown}
+use Rattle.tx_bridge.specs.Lent.{lent_spare, spare_of, spare_parts, spare_layers, spares_in, IsSpareOf, IsUsable}
+use Rattle.tx_bridge.specs.Lent.{HaveUnitsOf}
 use Rattle.tx_bridge.proofs.Partway.{units_in}
 use Rattle.tx_bridge.proofs.Handed.{item_dropped}
 use Rattle.tx_bridge.proofs.Taking.{heads}
@@ -40,22 +45,36 @@ unfolding IsDistinct
 spare_distinct u None h = tt
 spare_distinct u (Some b) h = h.sound.parts.distinct
 
+pub spare_layers_are : (o : Option Bridge) → spare_layers o ≡ (spare_of o).layers
+spare_layers_are None = refl
+spare_layers_are (Some b) = refl
+
 pub spare_parts_are : (o : Option Bridge) → kept_parts (spare_parts o) ≡ (spare_of o).parts
 spare_parts_are None = refl
 spare_parts_are (Some b) = refl
 
 -- what a paragraph of the body is charged
-pub parts_charge : (sheller : Sheller) (m : Moment) (u : DocUnit) (ks qs : KeptParts) (s : UnitSpare)
-    → has_parts u ≡ true → qs ≡ s.parts → parts_charge_by sheller m u ks qs ≡ unit_charge_by sheller m u ks s
-parts_charge sheller m u ks qs s nested same =
-    ap (parts_charge_by sheller m u ks) same
-    ∙ sym (ap (λ b. if b then parts_charge_by sheller m u ks s.parts else whole_charge m u s) nested)
+pub parts_charge : (sheller : Sheller) (m : Moment) (u : DocUnit) (ks qs : KeptParts)
+    (ls rs : List TreeTrace) (s : UnitSpare) → has_parts u ≡ true → qs ≡ s.parts → rs ≡ s.layers
+    → parts_charge_by sheller m u ks qs ls rs ≡ unit_charge_by sheller m u ks ls s
+parts_charge sheller m u ks qs ls rs s nested same alike =
+    ap (λ ps. parts_charge_by sheller m u ks ps ls rs) same
+    ∙ ap (parts_charge_by sheller m u ks s.parts ls) alike
+    ∙ sym (ap (λ b. if b then parts_charge_by sheller m u ks s.parts ls s.layers else whole_charge m u s) nested)
 
 -- what another unit is
-pub bare_charge : (sheller : Sheller) (m : Moment) (u : DocUnit) (ks : KeptParts) (s : UnitSpare)
-    → has_parts u ≡ false → whole_charge m u s ≡ unit_charge_by sheller m u ks s
-bare_charge sheller m u ks s nested =
-    sym (ap (λ b. if b then parts_charge_by sheller m u ks s.parts else whole_charge m u s) nested)
+pub bare_charge : (sheller : Sheller) (m : Moment) (u : DocUnit) (ks : KeptParts)
+    (ls : List TreeTrace) (s : UnitSpare) → has_parts u ≡ false
+    → whole_charge m u s ≡ unit_charge_by sheller m u ks ls s
+bare_charge sheller m u ks ls s nested =
+    sym (ap (λ b. if b then parts_charge_by sheller m u ks s.parts ls s.layers else whole_charge m u s) nested)
+
+-- it has no layers
+pub bare_known : (sheller : Sheller) (m : Moment) (u : DocUnit) (ls : List TreeTrace) → has_parts u ≡ false
+    → LayersKnown sheller m u ls
+bare_known sheller m u ls nested trace is =
+    ap (λ b. if b
+    then layer_costs_by (holds_in ls) sheller MOST_LEVELS (allowance m) u.tagged.tree (get m.env) else 0) nested
 
 -- where it can be used, the unit comes to it
 pub is_usable : (m : Moment) (u : DocUnit) (o : Option Bridge) (b : Bridge) → o ≡ Some b → IfSome o (IsSpareOf u)
@@ -79,10 +98,11 @@ first_lent [] (suc i) = refl
 first_lent (s ∷ ss) zero = refl
 first_lent (s ∷ ss) (suc i) = first_lent ss i
 
-pub charged : (sheller : Sheller) (m : Moment) (e : Entry) (ps : KeptParts) (o r : Option Bridge) (s : UnitSpare)
-    (n : ℕ) → n ≡ charge_by sheller m e ps (spare_of o) → o ≡ r → s ≡ spare_of r → n ≡ charge_by sheller m e ps s
-charged sheller m e ps o r s n is same first =
-    is ∙ ap (λ p. charge_by sheller m e ps (spare_of p)) same ∙ ap (charge_by sheller m e ps) (sym first)
+pub charged : (sheller : Sheller) (m : Moment) (e : Entry) (ps : KeptParts) (ls : List TreeTrace)
+    (o r : Option Bridge) (s : UnitSpare) (n : ℕ) → n ≡ charge_by sheller m e ps ls (spare_of o) → o ≡ r
+    → s ≡ spare_of r → n ≡ charge_by sheller m e ps ls s
+charged sheller m e ps ls o r s n is same first =
+    is ∙ ap (λ p. charge_by sheller m e ps ls (spare_of p)) same ∙ ap (charge_by sheller m e ps ls) (sym first)
 
 sound_at : (ss : List Bridge) (i : ℕ) (s : Bridge) → All IsSound ss → slice_get ss i ≡ Some s → IsSound s
 sound_at ss i s h is =
@@ -118,12 +138,13 @@ have_units ss bs None none same = subst (λ xs. HaveUnitsOf xs bs) (sym none) (n
 have_units ss bs (Some b) kept same = units_alike ss bs (ap units_of kept ∙ same)
 
 -- what is lent, as contracts see it
-pub zipped : (ss : List Bridge) → map kept_spare (zip (entries_of ss) (parts_in ss)) ≡ spares_in ss
+pub zipped : (ss : List Bridge) → map kept_spare (zip (entries_of ss) (zip (parts_in ss) (layers_in ss))) ≡ spares_in ss
 zipped [] = refl
 zipped (s ∷ ss) = ap (λ r. lent_spare s ∷ r) (zipped ss)
 
 pub all_lent : (ss : List Bridge) (o : Bridged) → entries_of ss ≡ o.kept → parts_in ss ≡ o.parts
-    → spares_in ss ≡ spares_of (Some o)
-all_lent ss o kept parts =
-    sym (zipped ss) ∙ ap (λ es. map kept_spare (zip es (parts_in ss))) kept
-    ∙ ap (λ pss. map kept_spare (zip o.kept pss)) parts
+    → layers_in ss ≡ o.layers → spares_in ss ≡ spares_of (Some o)
+all_lent ss o kept parts layers =
+    sym (zipped ss) ∙ ap (λ es. map kept_spare (zip es (zip (parts_in ss) (layers_in ss)))) kept
+    ∙ ap (λ pss. map kept_spare (zip o.kept (zip pss (layers_in ss)))) parts
+    ∙ ap (λ lss. map kept_spare (zip o.kept (zip o.parts lss))) layers

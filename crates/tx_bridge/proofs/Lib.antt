@@ -39,6 +39,7 @@ pub mod Aligned
 pub mod Lending
 pub mod Staying
 pub mod Spared
+pub mod HeldLayers
 pub mod Left
 pub mod Refreshed
 pub mod CarriedInPlace

@@ -112,6 +112,7 @@ pub left_sound : (b c : Bridge) → IsSound b
       unit = b.unit;
       kept = b.kept;
       parts = unmarked b.parts;
+      layers = b.layers;
       shelled = b.shelled;
       renewed = false;
       source = b.source;

@@ -21,10 +21,12 @@ use Rattle.tx_bridge.specs.Reached.{unit_stays_by, reached_by_from}
 use Rattle.tx_bridge.specs.PartsKept.{KeptParts, fresh_parts_by, fresh_parts_by_from, part_flags_by}
 use Rattle.tx_bridge.specs.PartsKept.{part_flags_by_from}
 use Rattle.tx_bridge.specs.Spares.{Spares, first_spare}
-use Rattle.tx_bridge.specs.Charges.{charge_by, charges_by}
+use Rattle.tx_walk.specs.LayerTraces.{TreeTrace}
+use Rattle.tx_bridge.specs.Charges.{charge_by, charges_by, LayersKnown, AllLayersKnown}
 use Rattle.tx_bridge.specs.HeldParts.{kept_parts, flags_of_parts}
 use Rattle.tx_bridge.specs.Settled.{AgreesWith, AreSettled}
-use Rattle.tx_bridge.specs.Sound.{IsSound, entry_of, entries_of, parts_in, part_flags_in, flags_of, sources_in}
+use Rattle.tx_bridge.specs.Sound.{IsSound, entry_of, entries_of, parts_in, part_flags_in, layers_in, flags_of}
+use Rattle.tx_bridge.specs.Sound.{sources_in}
 
 abbrev pub units_in : List Bridge → List DocUnit
 units_in bs = units_of (entries_of bs)
@@ -55,8 +57,11 @@ pub record Partway (sheller : Sheller) (old now : List Bridge) (spares : Spares)
   pub rest : drop i now ≡ drop i old
   pub flags : flags_of (take i now) ++ reached_by_from sheller m (entries_of (drop i old)) (parts_in (drop i old))
       ≡ reached_by_from sheller start (entries_of old) (parts_in old)
-  pub steps : after + charges_by sheller m (entries_of (drop i old)) (parts_in (drop i old)) (drop i spares)
-      ≡ before + charges_by sheller start (entries_of old) (parts_in old) spares
+  pub steps : after + charges_by sheller m (entries_of (drop i old)) (parts_in (drop i old)) (layers_in (drop i old))
+      (drop i spares)
+      ≡ before + charges_by sheller start (entries_of old) (parts_in old) (layers_in old) spares
+  pub known : (lss : List (List TreeTrace)) → AllLayersKnown sheller m (units_in (drop i old)) lss
+      → AllLayersKnown sheller start (units_in old) (layers_in (take i now) ++ lss)
   pub sound : All IsSound now
   pub units : units_in now ≡ units_in old
   pub sources : sources_in now ≡ sources_in old
@@ -76,6 +81,7 @@ begun sheller old spares start flag before sound settled left = record {
   rest = refl;
   flags = refl;
   steps = refl;
+  known = λ lss h. h;
   sound = sound;
   units = refl;
   sources = refl;
@@ -251,6 +257,19 @@ module _ (sheller : Sheller) (old now : List Bridge) (spares : Spares) (start : 
   pub rest_next : (y : Bridge) → drop (i + 1) (slice_set now i y) ≡ drop (i + 1) old
   rest_next y = drop-set-lt (i + 1) now i y (omega arith) ∙ sym others
 
+  known_next : (y : Bridge) (lss : List (List TreeTrace))
+      → LayersKnown sheller m (slice_index_or now i d).unit y.layers
+      → AllLayersKnown sheller (behind m (outcome_of m (slice_index_or now i d).unit)) (units_in (drop (i + 1) old)) lss
+      → AllLayersKnown sheller start (units_in old) (layers_in (take (i + 1) (slice_set now i y)) ++ lss)
+  unfolding b
+  known_next y lss known left =
+      subst (AllLayersKnown sheller start (units_in old))
+      (sym (ap (λ bs. layers_in bs ++ lss) (more_taken y)
+      ∙ ap (λ rs. rs ++ lss) (map-append (λ (w : Bridge). w.layers) (take i now) (y ∷ []))
+      ∙ append_assoc (layers_in (take i now)) (y.layers ∷ []) lss))
+      (p.known (y.layers ∷ lss)
+      (subst (λ bs. AllLayersKnown sheller m (units_in bs) (y.layers ∷ lss)) (sym ahead) (known, left)))
+
   pub next : (y : Bridge) (m1 : Moment) (flag1 : Bool) (after1 charge : ℕ)
       → IsBrought sheller (slice_index_or now i d) y m
       → flags_of_parts y.parts
@@ -259,7 +278,8 @@ module _ (sheller : Sheller) (old now : List Bridge) (spares : Spares) (start : 
       (kept_parts (slice_index_or now i d).parts))
       → m1 ≡ behind m (outcome_of m (slice_index_or now i d).unit)
       → charge ≡ charge_by sheller m (entry_of (slice_index_or now i d)) (kept_parts (slice_index_or now i d).parts)
-      (first_spare (drop i spares))
+      (slice_index_or now i d).layers (first_spare (drop i spares))
+      → LayersKnown sheller m (slice_index_or now i d).unit y.layers
       → after1 ≡ after + charge → charge + m1.left ≤ m.left
       → IsSound y
       → (y.renewed ≡ false → wide_outcome y.kept ≡ wide_outcome (slice_index_or now i d).kept)
@@ -269,7 +289,7 @@ module _ (sheller : Sheller) (old now : List Bridge) (spares : Spares) (start : 
       → (flag ≡ true) × (m1.env ≡ env_behind m.env (wide_outcome (slice_index_or now i d).kept)))
       → Partway sheller old (slice_set now i y) spares start (i + 1) m1 flag1 before after1 (spent + charge)
   unfolding b
-  next y m1 flag1 after1 charge brought mark is_r is_m is_charge is_after most sound kept same source goes =
+  next y m1 flag1 after1 charge brought mark is_r is_m is_charge known is_after most sound kept same source goes =
       record {
         paid = let was : after ≡ before + spent = p.paid in omega (arith, was, is_after);
         room = let had : spent + m.left ≤ MOST_VIEW_STEPS = p.room in omega (arith, had, most);
@@ -305,20 +325,25 @@ module _ (sheller : Sheller) (old now : List Bridge) (spares : Spares) (start : 
             ∙ p.flags;
         steps =
             let rest : List Bridge = drop (i + 1) old in
-            let more : charges_by sheller m (entries_of (drop i old)) (parts_in (drop i old)) (drop i spares)
-            ≡ charge_by sheller m (entry_of b) (kept_parts b.parts) (first_spare (drop i spares))
-            + charges_by sheller (behind m (outcome_of m b.unit)) (entries_of rest) (parts_in rest) (drop 1
-            (drop i spares)) =
-            ap (λ bs. charges_by sheller m (entries_of bs) (parts_in bs) (drop i spares)) ahead in
-            let moved : charges_by sheller m1 (entries_of rest) (parts_in rest) (drop (i + 1) spares)
-            ≡ charges_by sheller (behind m (outcome_of m b.unit)) (entries_of rest) (parts_in rest) (drop 1
-            (drop i spares)) =
-            ap (λ n. charges_by sheller n (entries_of rest) (parts_in rest) (drop (i + 1) spares)) is_m
-            ∙ ap (charges_by sheller (behind m (outcome_of m b.unit)) (entries_of rest) (parts_in rest))
+            let more : charges_by sheller m (entries_of (drop i old)) (parts_in (drop i old)) (layers_in (drop i old))
+            (drop i spares)
+            ≡ charge_by sheller m (entry_of b) (kept_parts b.parts) b.layers (first_spare (drop i spares))
+            + charges_by sheller (behind m (outcome_of m b.unit)) (entries_of rest) (parts_in rest) (layers_in rest)
+            (drop 1 (drop i spares)) =
+            ap (λ bs. charges_by sheller m (entries_of bs) (parts_in bs) (layers_in bs) (drop i spares)) ahead in
+            let moved : charges_by sheller m1 (entries_of rest) (parts_in rest) (layers_in rest) (drop (i + 1) spares)
+            ≡ charges_by sheller (behind m (outcome_of m b.unit)) (entries_of rest) (parts_in rest) (layers_in rest)
+            (drop 1 (drop i spares)) =
+            ap (λ n. charges_by sheller n (entries_of rest) (parts_in rest) (layers_in rest) (drop (i + 1) spares)) is_m
+            ∙ ap (charges_by sheller (behind m (outcome_of m b.unit)) (entries_of rest) (parts_in rest)
+            (layers_in rest))
             (sym (drop-drop 1 i spares)) in
-            let was : after + charges_by sheller m (entries_of (drop i old)) (parts_in (drop i old)) (drop i spares)
-            ≡ before + charges_by sheller start (entries_of old) (parts_in old) spares = p.steps in
+            let was : after + charges_by sheller m (entries_of (drop i old)) (parts_in (drop i old))
+            (layers_in (drop i old)) (drop i spares)
+            ≡ before + charges_by sheller start (entries_of old) (parts_in old) (layers_in old) spares = p.steps in
             omega (arith, more, moved, was, is_charge, is_after);
+        known = λ lss left. known_next y lss known
+            (subst (λ n. AllLayersKnown sheller n (units_in (drop (i + 1) old)) lss) is_m left);
         sound = All-set IsSound now i y sound p.sound;
         units = units_next y brought.unit;
         sources = sources_next y source;
@@ -331,6 +356,7 @@ abbrev pub Stops : Sheller → Moment → List Bridge → List Bridge → Type 0
 Stops sheller start old now =
     (n : ℕ) × (entries_of now ≡ take n (fresh_from start (units_in old)) ++ drop n (entries_of old))
     × (parts_in now ≡ take n (fresh_parts_by_from sheller start (units_in old)) ++ drop n (parts_in old))
+    × (drop n (layers_in now) ≡ drop n (layers_in old))
 
 map_take : (n : ℕ) (bs : List Bridge) → length (entries_of (take n bs)) ≡ length (take n bs)
 map_take n bs = length-map (take n bs) entry_of
@@ -359,6 +385,15 @@ drop_parts : (n : ℕ) (bs : List Bridge) → parts_in (drop n bs) ≡ drop n (p
 drop_parts zero bs = refl
 drop_parts (suc n) [] = refl
 drop_parts (suc n) (b ∷ bs) = drop_parts n bs
+
+drop_layers : (n : ℕ) (bs : List Bridge) → layers_in (drop n bs) ≡ drop n (layers_in bs)
+drop_layers zero bs = refl
+drop_layers (suc n) [] = refl
+drop_layers (suc n) (b ∷ bs) = drop_layers n bs
+
+layers_stopped : (old now : List Bridge) (i : ℕ) → drop i now ≡ drop i old
+    → drop i (layers_in now) ≡ drop i (layers_in old)
+layers_stopped old now i rest = sym (drop_layers i now) ∙ ap layers_in rest ∙ drop_layers i old
 
 parts_stopped : (sheller : Sheller) (start : Moment) (old now : List Bridge) (i : ℕ) (m : Moment)
     → parts_in (take i now) ++ fresh_parts_by_from sheller m (units_in (drop i old))
@@ -391,6 +426,7 @@ stops sheller old now spares start i m flag before after spent p inside d y unit
       ∙ stopped start old now i m p.fresh p.rest (omega arith),
   ap parts_in (ap (slice_set now i) same ∙ set-get_or now i d)
       ∙ parts_stopped sheller start old now i m p.parts p.rest (omega arith),
+  ap (λ bs. drop i (layers_in bs)) (ap (slice_set now i) same ∙ set-get_or now i d) ∙ layers_stopped old now i p.rest,
 )
 stops sheller old now spares start i m flag before after spent p inside d y unit (inr fresh) =
     let many : i + 1 ≤ length (slice_set now i y) = grind (arith, common_steps, inside) in (
@@ -404,6 +440,8 @@ stops sheller old now spares start i m flag before after spent p inside d y unit
           (parts_next sheller old now spares start i m flag before after spent p inside d y
           (record { unit = unit; fresh = fresh.0; parts = fresh.1 }))
           (rest_next sheller old now spares start i m flag before after spent p inside d y) many,
+      layers_stopped old (slice_set now i y) (i + 1)
+          (rest_next sheller old now spares start i m flag before after spent p inside d y),
     )
 
 -- all units are behind
@@ -412,16 +450,19 @@ pub ended : (sheller : Sheller) (old now : List Bridge) (spares : Spares) (start
     (before after spent : ℕ) → Partway sheller old now spares start i m flag before after spent → length now ≤ i
     → (entries_of now ≡ fresh_from start (units_in old)) × (flags_of now ≡ reached_by_from sheller start
     (entries_of old) (parts_in old))
-    × (spent ≡ charges_by sheller start (entries_of old) (parts_in old) spares)
+    × (spent ≡ charges_by sheller start (entries_of old) (parts_in old) (layers_in old) spares)
     × (parts_in now ≡ fresh_parts_by_from sheller start (units_in old))
     × (part_flags_in now ≡ part_flags_by_from sheller start (entries_of old) (parts_in old))
+    × AllLayersKnown sheller start (units_in old) (layers_in now)
 ended sheller old now spares start i m flag before after spent p past =
     let whole : take i now ≡ now = grind (arith, common_steps, past) in
     let none : drop i old ≡ [] = sym p.rest ∙ drop_all i now past in
-    let left : charges_by sheller m (entries_of (drop i old)) (parts_in (drop i old)) (drop i spares) ≡ 0 =
-    ap (λ bs. charges_by sheller m (entries_of bs) (parts_in bs) (drop i spares)) none in
-    let sum : after + charges_by sheller m (entries_of (drop i old)) (parts_in (drop i old)) (drop i spares)
-    ≡ before + charges_by sheller start (entries_of old) (parts_in old) spares = p.steps in
+    let left : charges_by sheller m (entries_of (drop i old)) (parts_in (drop i old)) (layers_in (drop i old))
+    (drop i spares) ≡ 0 =
+    ap (λ bs. charges_by sheller m (entries_of bs) (parts_in bs) (layers_in bs) (drop i spares)) none in
+    let sum : after + charges_by sheller m (entries_of (drop i old)) (parts_in (drop i old)) (layers_in (drop i old))
+    (drop i spares)
+    ≡ before + charges_by sheller start (entries_of old) (parts_in old) (layers_in old) spares = p.steps in
     let paid : after ≡ before + spent = p.paid in (
       sym (append-nil (entries_of now)) ∙ ap (λ bs. entries_of bs ++ []) (sym whole)
           ∙ ap (λ bs. entries_of (take i now) ++ fresh_from m (units_in bs)) (sym none) ∙ p.fresh,
@@ -435,8 +476,15 @@ ended sheller old now spares start i m flag before after spent p past =
           ∙ ap (λ bs. part_flags_in (take i now) ++ part_flags_by_from sheller m (entries_of bs) (parts_in bs))
           (sym none)
           ∙ p.marks,
+      subst (AllLayersKnown sheller start (units_in old))
+          (ap (λ bs. layers_in bs ++ []) whole ∙ append-nil (layers_in now))
+          (p.known [] (subst (λ bs. AllLayersKnown sheller m (units_in bs) []) (sym none) tt)),
     )
 
 pub any_err : {A E P : Type 0} (r : Result A E) → P → OnErr r P
 any_err (Ok a) h = tt
 any_err (Err e) h = h
+
+pub OnErr-weaker : {A E P Q : Type 0} (r : Result A E) → (P → Q) → OnErr r P → OnErr r Q
+OnErr-weaker (Ok a) f h = tt
+OnErr-weaker (Err e) f h = f h

@@ -17,16 +17,18 @@ use Rattle.tx_units.specs.Places.{NoneBegins}
 use Rattle.tx_bridge.specs.declared.bridge.Bridge.{Bridge}
 use Rattle.tx_bridge.specs.declared.course.Course.{Course}
 use Rattle.tx_bridge.specs.declared.course.PartMove.{PartMove}
-use Rattle.tx_bridge.specs.Carrying.{through, unit_places_after, mods_of, AllStand, Stands, AreSameBodies}
+use Rattle.tx_walk.specs.LayerTraces.{TreeTrace}
+use Rattle.tx_bridge.specs.Carrying.{through, unit_places_after, layers_now, mods_of, AllStand, Stands}
+use Rattle.tx_bridge.specs.Carrying.{AreSameBodies}
 use Rattle.tx_bridge.specs.Courses.{MayFollow, HasTree, strays_left, arrived_parts, joined_by, with_arrived}
 use Rattle.tx_bridge.specs.Courses.{given_with}
 use Rattle.tx_bridge.specs.Entries.{Kept, units_of}
 use Rattle.tx_bridge.specs.HeldParts.{kept_parts}
-use Rattle.tx_bridge.specs.Names.{PartMoves, CarryParts, CarryStrays, IsCourse}
+use Rattle.tx_bridge.specs.Names.{PartMoves, CarryParts, CarryLayers, CarryStrays, IsCourse}
 use Rattle.tx_bridge.specs.PartMoves.{Move, AreMoves, part_moves, seen_move, arrived, parts_now, all_parts_now}
 use Rattle.tx_bridge.specs.PartsKept.{KeptParts}
 use Rattle.tx_bridge.specs.Slots.{AreApart, AreMoved, AllPlaced, bodies_of, fresh_bridge, given_all, paths_in}
-use Rattle.tx_bridge.specs.Sound.{IsSound, AreRight, entries_of, parts_in, sources_in}
+use Rattle.tx_bridge.specs.Sound.{IsSound, AreRight, entries_of, parts_in, layers_in, sources_in}
 use Rattle.tx_bridge.specs.Strays.{Stray, kept_strays, HoldsStray, AreStrays, StandAside, strays_in, AreTidy}
 use Rattle.tx_bridge.specs.declared.strays.Stray.{Stray as DoneStray}
 use Rattle.tx_bridge.specs.UnitLists.{AreUnits, IsPlaced}
@@ -145,6 +147,46 @@ given_parts ps ms t old us =
     ∙ all_parts ps (map (through ms t) (paths_in old)) old 0 us
     ∙ ap (all_parts_now (parts_in old) (map seen_move ps) 0)
     (sym (given_got number_given source_in (λ i b w. refl) 0 (map (through ms t) (paths_in old)) old (coming ps us)))
+
+-- ---- what is kept of layers
+
+layers_found : (bs : List Bridge) (n k : ℕ) (b : Bridge) → n ≡ 0 + k → slice_get bs k ≡ Some b
+    → layers_now (layers_in bs) (Some n) ≡ b.layers
+layers_found bs n k b e at =
+    let same : n ≡ k = omega (arith, e) in
+    ap (λ i. layers_now (layers_in bs) (Some i)) same
+    ∙ ap (λ o. option_map_or (λ ls. ls) o []) (slice_get-map (λ (w : Bridge). w.layers) bs k
+    ∙ ap (option_map (λ (w : Bridge). w.layers)) at)
+
+all_layers : (ps : List PartMove) (qs : List (Option (List ℕ))) (bs : List Bridge) (j : ℕ) (us : List DocUnit)
+    → all_got (λ i b. b.layers) (λ b. b.layers) 0 qs bs j (with_arrived ps j (map fresh_bridge us))
+    ≡ map (layers_now (layers_in bs))
+    (all_got number_given source_in 0 qs bs j (with_arrived ps j (map fresh_bridge us)))
+all_layers ps qs bs j [] = refl
+all_layers ps qs bs j (u ∷ us) =
+    ap (λ x. x ∷ all_got (λ i b. b.layers) (λ b. b.layers) 0 qs bs (j + 1)
+    (with_arrived ps (j + 1) (map fresh_bridge us)))
+    (got_found (λ (b : Bridge). b.layers) (layers_now (layers_in bs)) 0 qs bs j u None (layers_found bs))
+    ∙ ap (λ xs. layers_now (layers_in bs) (got number_given 0 qs bs j u None) ∷ xs) (all_layers ps qs bs (j + 1) us)
+
+given_layers : (ps : List PartMove) (ms : List Mod) (t : WideTree) (old : List Bridge) (us : List DocUnit)
+    → layers_in (given_with ps ms t old us)
+    ≡ map (layers_now (layers_in old)) (sources_in (given_with ps ms t old us))
+given_layers ps ms t old us =
+    given_got (λ i b. b.layers) (λ b. b.layers) (λ i b w. refl) 0 (map (through ms t) (paths_in old)) old
+    (coming ps us)
+    ∙ all_layers ps (map (through ms t) (paths_in old)) old 0 us
+    ∙ ap (map (layers_now (layers_in old)))
+    (sym (given_got number_given source_in (λ i b w. refl) 0 (map (through ms t) (paths_in old)) old (coming ps us)))
+
+pub received_layers : (ps : List PartMove) (ms : List Mod) (t : WideTree) (lss : List (List TreeTrace))
+    (us : List DocUnit) (old result : List Bridge) → layers_in old ≡ lss
+    → result ≡ given_with ps ms t old us → layers_in result ≡ CarryLayers lss (sources_in result)
+unfolding CarryLayers
+received_layers ps ms t lss us old result had is =
+    ap layers_in is ∙ given_layers ps ms t old us
+    ∙ ap (λ bs. map (layers_now (layers_in old)) (sources_in bs)) (sym is)
+    ∙ ap (λ ks. map (layers_now ks) (sources_in result)) had
 
 -- ---- what has come holds
 

@@ -48,6 +48,7 @@ settled_one false k b u = record {
   unit = u;
   kept = b.kept;
   parts = b.parts;
+  layers = b.layers;
   shelled = b.shelled;
   renewed = false;
   source = Some k;

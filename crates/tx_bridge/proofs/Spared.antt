@@ -3,7 +3,7 @@ use Rattle.std.proofs.Common.{◌≡◌, ℕ, ◌+◌, List, [], ◌∷◌, map,
 use Rattle.std.proofs.Common.{leb-true, arith}
 use Rattle.std.proofs.lemmas.Slice.Eq.{bytes_eq-Decides}
 use Rattle.std.proofs.lemmas.List.Sums.{sum_by-cons}
-use Rattle.std.specs.Prelude.{Bool, true, false, not, ◌&&◌, ◌||◌, if◌then◌else◌, nat_le}
+use Rattle.std.specs.Prelude.{Bool, true, false, not, ◌&&◌, ◌||◌, if◌then◌else◌, nat_le, drop}
 use Rattle.std.specs.List.{AllByRecursion, IsDistinct}
 use Rattle.std.specs.FinMap.{get}
 use Rattle.std.specs.Str.{bytes_eq}
@@ -15,10 +15,11 @@ use Rattle.tx_exec_form.specs.Evaluated.{WideTrace}
 use Rattle.tx_parts.specs.Composed.{evaluates}
 use Rattle.tx_parts.specs.Opening.{Sheller, closed}
 use Rattle.tx_parts.specs.Shellers.{IsSheller}
-use Rattle.tx_parts.specs.LayerCosts.{holds_nothing, layer_costs_by}
+use Rattle.tx_parts.specs.LayerCosts.{Holder, layer_costs_by}
 use Rattle.tx_parts.specs.Parts.{Part, HasTrace, parts_by, part_cost, Stored, stored}
 use Rattle.tx_walk.specs.Held.{Store, Stores, agrees, fits as part_fits, serves, charge_of as part_charge}
 use Rattle.tx_walk.specs.Held.{only, charges}
+use Rattle.tx_walk.specs.LayerTraces.{TreeTrace, holds_either}
 use Rattle.tx_walk.proofs.Agreed.{agrees_is}
 use Rattle.tx_walk.proofs.Found.{if_true, if_false}
 use Rattle.tx_walk.proofs.Trees.{both}
@@ -28,8 +29,9 @@ use Rattle.tx_bridge.specs.Entries.{Entry, Kept, outcome_of}
 use Rattle.tx_bridge.specs.Reached.{fits, is_kept, are_kept, unit_stays_by}
 use Rattle.tx_bridge.specs.PartsKept.{KeptParts, kept_at, has_parts, unit_parts, unit_parts_by, parts_if_done}
 use Rattle.tx_bridge.specs.PartsKept.{fresh_parts, fresh_parts_by}
-use Rattle.tx_bridge.specs.Spares.{UnitSpare, nothing_spare}
+use Rattle.tx_bridge.specs.Spares.{UnitSpare, Spares, nothing_spare, first_spare, stores_with}
 use Rattle.tx_bridge.specs.Charges.{layers_charge, parts_charge_by, whole_charge, unit_charge_by, is_charged, charge_by}
+use Rattle.tx_bridge.specs.Charges.{first_layers, charges_by}
 use Rattle.tx_bridge.specs.Charges.{charge_with, charges_with, unit_charge, charge_of, charges_from}
 use Rattle.tx_bridge.specs.UnitLists.{IsPlaced}
 use Rattle.tx_bridge.proofs.ByParts.{AllSameStored, both_stores, outcome_there}
@@ -39,7 +41,7 @@ use Rattle.tx_bridge.proofs.Used.{AllSupport, AllAllowed, AllAgree, fits_is, out
 
 -- laws of shells, as the calls state them
 abbrev pub LayersFree : Type 0
-LayersFree = (k c : ℕ) (t : WideTree) (e : Before) → layer_costs_by holds_nothing closed k c t e ≡ 0
+LayersFree = (held : Holder) (k c : ℕ) (t : WideTree) (e : Before) → layer_costs_by held closed k c t e ≡ 0
 
 abbrev pub AllDistinct : Type 0
 AllDistinct = (sheller : Sheller) (k c : ℕ) (path : List ℕ) (t : WideTree) (e : Before)
@@ -48,14 +50,14 @@ AllDistinct = (sheller : Sheller) (k c : ℕ) (path : List ℕ) (t : WideTree) (
 -- ---- where nothing is spare
 
 parts_alone : LayersFree → (m : Moment) (u : DocUnit) (ps : KeptParts)
-    → parts_charge_by closed m u ps [] ≡ charges (only (kept_at ps)) (unit_parts m u)
+    → parts_charge_by closed m u ps [] [] [] ≡ charges (only (kept_at ps)) (unit_parts m u)
 parts_alone free m u ps =
-    let none : layer_costs_by holds_nothing closed MOST_LEVELS (allowance m) u.tagged.tree (get m.env) ≡ 0 =
-    free MOST_LEVELS (allowance m) u.tagged.tree (get m.env) in
+    let none : layer_costs_by (holds_either [] []) closed MOST_LEVELS (allowance m) u.tagged.tree (get m.env) ≡ 0 =
+    free (holds_either [] []) MOST_LEVELS (allowance m) u.tagged.tree (get m.env) in
     omega (arith, none)
 
 unit_alone : LayersFree → (m : Moment) (u : DocUnit) (ps : KeptParts)
-    → unit_charge_by closed m u ps nothing_spare ≡ unit_charge m u ps
+    → unit_charge_by closed m u ps [] nothing_spare ≡ unit_charge m u ps
 unit_alone free m u ps =
     ap (λ n. if has_parts u then n else charge m (outcome_of m u)) (parts_alone free m u ps)
 
@@ -67,6 +69,24 @@ nothing_charged free m (e ∷ es) (ps ∷ pss) =
     let next : Moment = behind m (outcome_of m e.unit) in
     ap (λ n. (if is_charged m e then n else 0) + charges_with next es pss []) (unit_alone free m e.unit ps)
     ∙ ap (λ n. charge_of m e ps + n) (nothing_charged free next es pss)
+
+-- whatever is held of layers
+unit_unseen : LayersFree → (m : Moment) (u : DocUnit) (ps : KeptParts) (ls : List TreeTrace) (s : UnitSpare)
+    → unit_charge_by closed m u ps ls s ≡ unit_charge_by closed m u ps [] s
+unit_unseen free m u ps ls s =
+    ap (λ n. if has_parts u then charges (stores_with ps s.parts) (unit_parts m u) + n else whole_charge m u s)
+    (free (holds_either ls s.layers) MOST_LEVELS (allowance m) u.tagged.tree (get m.env)
+    ∙ sym (free (holds_either [] s.layers) MOST_LEVELS (allowance m) u.tagged.tree (get m.env)))
+
+pub layers_unseen : LayersFree → (m : Moment) (es : Kept) (pss : List KeptParts) (lss : List (List TreeTrace))
+    (ss : Spares) → charges_by closed m es pss lss ss ≡ charges_with m es pss ss
+layers_unseen free m [] pss lss ss = refl
+layers_unseen free m (e ∷ es) [] lss ss = refl
+layers_unseen free m (e ∷ es) (ps ∷ pss) lss ss =
+    let next : Moment = behind m (outcome_of m e.unit) in
+    ap (λ n. (if is_charged m e then n else 0) + charges_by closed next es pss (drop 1 lss) (drop 1 ss))
+    (unit_unseen free m e.unit ps (first_layers lss) (first_spare ss))
+    ∙ ap (λ n. charge_with m e ps (first_spare ss) + n) (layers_unseen free next es pss (drop 1 lss) (drop 1 ss))
 
 -- ---- parts that are held
 
@@ -144,27 +164,29 @@ module _ (distinct : AllDistinct) (sheller : Sheller) (m : Moment) (u : DocUnit)
   parts_distinct = distinct sheller MOST_LEVELS (allowance m) [] u.tagged.tree (get m.env)
 
   -- where its parts are kept, or are spare, it is charged for its layers
-  own_parts_free : (ks spare : KeptParts) → are_kept ks (unit_parts_by sheller m u) ≡ true
-      → parts_charge_by sheller m u ks spare
-      ≡ layer_costs_by holds_nothing sheller MOST_LEVELS (allowance m) u.tagged.tree (get m.env)
-  own_parts_free ks spare is =
+  own_parts_free : (ks spare : KeptParts) (ls rs : List TreeTrace) → are_kept ks (unit_parts_by sheller m u) ≡ true
+      → parts_charge_by sheller m u ks spare ls rs
+      ≡ layer_costs_by (holds_either ls rs) sheller MOST_LEVELS (allowance m) u.tagged.tree (get m.env)
+  own_parts_free ks spare ls rs is =
       let none : charges (both_stores (kept_at ks) (kept_at spare)) (unit_parts_by sheller m u) ≡ 0 =
       own_free (kept_at ks) (kept_at spare) (unit_parts_by sheller m u)
       (kept_served ks (unit_parts_by sheller m u) parts_distinct is) in
       omega (arith, none)
 
-  spare_parts_free : (ks spare : KeptParts) → are_kept spare (unit_parts_by sheller m u) ≡ true
-      → parts_charge_by sheller m u ks spare
-      ≡ layer_costs_by holds_nothing sheller MOST_LEVELS (allowance m) u.tagged.tree (get m.env)
-  spare_parts_free ks spare is =
+  spare_parts_free : (ks spare : KeptParts) (ls rs : List TreeTrace)
+      → are_kept spare (unit_parts_by sheller m u) ≡ true
+      → parts_charge_by sheller m u ks spare ls rs
+      ≡ layer_costs_by (holds_either ls rs) sheller MOST_LEVELS (allowance m) u.tagged.tree (get m.env)
+  spare_parts_free ks spare ls rs is =
       let none : charges (both_stores (kept_at ks) (kept_at spare)) (unit_parts_by sheller m u) ≡ 0 =
       spare_all_free (kept_at ks) (kept_at spare) (unit_parts_by sheller m u)
       (kept_served spare (unit_parts_by sheller m u) parts_distinct is) in
       omega (arith, none)
 
-pub staying_charged : AllDistinct → (sheller : Sheller) (m : Moment) (e : Entry) (ks : KeptParts) (s : UnitSpare)
-    → unit_stays_by sheller m e ks ≡ true → charge_by sheller m e ks s ≡ layers_charge sheller m e.unit
-staying_charged distinct sheller m e ks s is = by (has_parts e.unit) refl
+pub staying_charged : AllDistinct → (sheller : Sheller) (m : Moment) (e : Entry) (ks : KeptParts)
+    (ls : List TreeTrace) (s : UnitSpare) → unit_stays_by sheller m e ks ≡ true
+    → charge_by sheller m e ks ls s ≡ layers_charge (holds_either ls s.layers) sheller m e.unit
+staying_charged distinct sheller m e ks ls s is = by (has_parts e.unit) refl
   where
     tests : (fits m e.trace ≡ true)
         × ((not (has_parts e.unit) || are_kept ks (unit_parts_by sheller m e.unit)) ≡ true)
@@ -172,20 +194,22 @@ staying_charged distinct sheller m e ks s is = by (has_parts e.unit) refl
 
     by : (b : Bool) → has_parts e.unit ≡ b
         → (if b || not (fits m e.trace)
-        then if b then parts_charge_by sheller m e.unit ks s.parts else whole_charge m e.unit s else 0)
-        ≡ (if b then layer_costs_by holds_nothing sheller MOST_LEVELS (allowance m) e.unit.tagged.tree (get m.env) else 0)
+        then if b then parts_charge_by sheller m e.unit ks s.parts ls s.layers else whole_charge m e.unit s else 0)
+        ≡ (if b
+        then layer_costs_by (holds_either ls s.layers) sheller MOST_LEVELS (allowance m) e.unit.tagged.tree (get m.env)
+        else 0)
     by false n = ap (λ f. if not f then whole_charge m e.unit s else 0) tests.0
     by true n =
-        own_parts_free distinct sheller m e.unit ks s.parts
+        own_parts_free distinct sheller m e.unit ks s.parts ls s.layers
         (ap (λ a. not a || are_kept ks (unit_parts_by sheller m e.unit)) (sym n) ∙ tests.1)
 
-pub layers_free : LayersFree → (m : Moment) (u : DocUnit) → layers_charge closed m u ≡ 0
-layers_free free m u = by (has_parts u)
+pub layers_free : LayersFree → (held : Holder) (m : Moment) (u : DocUnit) → layers_charge held closed m u ≡ 0
+layers_free free held m u = by (has_parts u)
   where
     by : (b : Bool)
-        → (if b then layer_costs_by holds_nothing closed MOST_LEVELS (allowance m) u.tagged.tree (get m.env) else 0) ≡ 0
+        → (if b then layer_costs_by held closed MOST_LEVELS (allowance m) u.tagged.tree (get m.env) else 0) ≡ 0
     by false = refl
-    by true = free MOST_LEVELS (allowance m) u.tagged.tree (get m.env)
+    by true = free held MOST_LEVELS (allowance m) u.tagged.tree (get m.env)
 
 -- ---- a unit whose trace fits, and whose parts a refresh has left
 
@@ -233,11 +257,11 @@ module _ (support : AllSupport) (allowed : AllAllowed) (agree : AllAgree) (same 
         by false nested = refl
         by true nested = parts_kept nested
 
-    spare_charged : (o : Option WideTrace) (ps : KeptParts)
-        → charge_by sheller m (record { unit = u; trace = o }) ps
-        (record { trace = Some trace; parts = fresh_parts_by sheller n u })
-        ≡ layers_charge sheller m u
-    spare_charged o ps = by (has_parts u) refl
+    spare_charged : (o : Option WideTrace) (ps : KeptParts) (ls rs : List TreeTrace)
+        → charge_by sheller m (record { unit = u; trace = o }) ps ls
+        (record { trace = Some trace; parts = fresh_parts_by sheller n u; layers = rs })
+        ≡ layers_charge (holds_either ls rs) sheller m u
+    spare_charged o ps ls rs = by (has_parts u) refl
       where
         unused : (b : Bool) → (if b then (if fits m (Some trace) then 0 else charge m (outcome_of m u)) else 0) ≡ 0
         unused true = ap (λ f. if f then 0 else charge m (outcome_of m u)) fit
@@ -245,11 +269,13 @@ module _ (support : AllSupport) (allowed : AllAllowed) (agree : AllAgree) (same 
 
         by : (b : Bool) → has_parts u ≡ b
             → (if b || not (fits m o)
-            then if b then parts_charge_by sheller m u ps (fresh_parts_by sheller n u)
+            then if b then parts_charge_by sheller m u ps (fresh_parts_by sheller n u) ls rs
             else if fits m (Some trace) then 0 else charge m (outcome_of m u) else 0)
-            ≡ (if b then layer_costs_by holds_nothing sheller MOST_LEVELS (allowance m) u.tagged.tree (get m.env) else 0)
+            ≡ (if b
+            then layer_costs_by (holds_either ls rs) sheller MOST_LEVELS (allowance m) u.tagged.tree (get m.env)
+            else 0)
         by false nested = unused (not (fits m o))
-        by true nested = spare_parts_free distinct sheller m u ps (fresh_parts_by sheller n u) (parts_kept nested)
+        by true nested = spare_parts_free distinct sheller m u ps (fresh_parts_by sheller n u) ls rs (parts_kept nested)
 
 pub fresh_stays : AllSupport → AllAllowed → AllAgree → AllSameStored → AllTraced → AllDistinct → (sheller : Sheller)
     → IsSheller sheller → (m n : Moment) (e : Entry) (trace : WideTrace) → IsPlaced e.unit → e.trace ≡ Some trace
@@ -259,17 +285,18 @@ fresh_stays support allowed agree same traced distinct sheller sound m n e trace
     unit_stays support allowed agree same traced distinct sheller sound m n e.unit placed trace is fit e.trace at
 
 pub spare_layers : AllSupport → AllAllowed → AllAgree → AllSameStored → AllTraced → AllDistinct → (sheller : Sheller)
-    → IsSheller sheller → (m n : Moment) (e : Entry) (ps : KeptParts) (trace : WideTrace) → IsPlaced e.unit
-    → outcome_of n e.unit ≡ Some trace → fits m (Some trace) ≡ true
-    → charge_by sheller m e ps (record { trace = Some trace; parts = fresh_parts_by sheller n e.unit })
-    ≡ layers_charge sheller m e.unit
-spare_layers support allowed agree same traced distinct sheller sound m n e ps trace placed is fit =
-    spare_charged support allowed agree same traced distinct sheller sound m n e.unit placed trace is fit e.trace ps
+    → IsSheller sheller → (m n : Moment) (e : Entry) (ps : KeptParts) (ls rs : List TreeTrace) (trace : WideTrace)
+    → IsPlaced e.unit → outcome_of n e.unit ≡ Some trace → fits m (Some trace) ≡ true
+    → charge_by sheller m e ps ls (record { trace = Some trace; parts = fresh_parts_by sheller n e.unit; layers = rs })
+    ≡ layers_charge (holds_either ls rs) sheller m e.unit
+spare_layers support allowed agree same traced distinct sheller sound m n e ps ls rs trace placed is fit =
+    spare_charged support allowed agree same traced distinct sheller sound m n e.unit placed trace is fit e.trace ps ls
+    rs
 
 pub spare_free : AllSupport → AllAllowed → AllAgree → AllSameStored → AllTraced → AllDistinct → LayersFree
-    → IsSheller closed → (m n : Moment) (e : Entry) (ps : KeptParts) (trace : WideTrace) → IsPlaced e.unit
-    → outcome_of n e.unit ≡ Some trace → fits m (Some trace) ≡ true
-    → charge_with m e ps (record { trace = Some trace; parts = fresh_parts n e.unit }) ≡ 0
-spare_free support allowed agree same traced distinct free shut m n e ps trace placed is fit =
-    spare_layers support allowed agree same traced distinct closed shut m n e ps trace placed is fit
-    ∙ layers_free free m e.unit
+    → IsSheller closed → (m n : Moment) (e : Entry) (ps : KeptParts) (rs : List TreeTrace) (trace : WideTrace)
+    → IsPlaced e.unit → outcome_of n e.unit ≡ Some trace → fits m (Some trace) ≡ true
+    → charge_with m e ps (record { trace = Some trace; parts = fresh_parts n e.unit; layers = rs }) ≡ 0
+spare_free support allowed agree same traced distinct free shut m n e ps rs trace placed is fit =
+    spare_layers support allowed agree same traced distinct closed shut m n e ps [] rs trace placed is fit
+    ∙ layers_free free (holds_either [] rs) m e.unit

@@ -15,6 +15,7 @@ use Rattle.tx_exec.specs.declared.outcome.Outcome.TheVariants.{Done, Over}
 use Rattle.tx_exec.specs.Outcomes.{wide_outcome, NamesOnce}
 use Rattle.tx_view_form.specs.Outcomes.{Moment, allowance, outcome, charge, behind, env_behind}
 use Rattle.tx_units.specs.declared.kinds.Unit.{Unit as DocUnit}
+use Rattle.tx_walk.specs.LayerTraces.{TreeTrace}
 use Rattle.tx_walk.specs.SameTrees.{same}
 use Rattle.tx_bridge.specs.Entries.{outcome_of, fresh_from}
 use Rattle.tx_walk.specs.Held.{agrees}
@@ -69,10 +70,19 @@ charge_fits allowed m (Some trace) t e =
     omega (arith, cost)
 
 pub sound_with : AllSupport → AllAllowed → (m : Moment) (u : DocUnit) (o : Outcome) (ps : List DonePart)
-    (shelled flag : Bool) (from : Option ℕ) → wide_outcome o ≡ outcome (tagged_of u.tagged) m → NamesOnce o
+    (ls : List TreeTrace) (shelled flag : Bool) (from : Option ℕ)
+    → wide_outcome o ≡ outcome (tagged_of u.tagged) m → NamesOnce o
     → IsPlaced u → PartsHold shelled u (wide_outcome o) ps
-    → IsSound (record { unit = u; kept = o; parts = ps; shelled = shelled; renewed = flag; source = from })
-sound_with support allowed m u o ps shelled flag from e once placed hold = record {
+    → IsSound (record {
+      unit = u;
+      kept = o;
+      parts = ps;
+      layers = ls;
+      shelled = shelled;
+      renewed = flag;
+      source = from;
+    })
+sound_with support allowed m u o ps ls shelled flag from e once placed hold = record {
   holds = outcome_holds support allowed m (wide_outcome o) (tagged_of u.tagged) e;
   once = once;
   placed = placed;

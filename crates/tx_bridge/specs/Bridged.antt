@@ -10,17 +10,19 @@ use Rattle.tx_exec_form.specs.Evaluated.{WideTrace}
 use Rattle.tx_units.specs.declared.kinds.Unit.{Unit as DocUnit}
 use Rattle.tx_units.specs.contracts.kinds.Unit as one_unit
 use Rattle.tx_parts.specs.Parts.{Stored}
+use Rattle.tx_walk.specs.LayerTraces.{TreeTrace, coded_TreeTrace}
 use Rattle.tx_bridge.specs.Entries.{Entry, Kept}
 use Rattle.tx_bridge.specs.PartsKept.{KeptParts}
 use Rattle.tx_bridge.specs.Strays.{Stray}
 
--- What is kept of the units, of their parts, and of strays, and which unit each was before the last edit. Of each unit
--- there is a flag, which says behind a refresh whether it was reached when that began, and one of each part. An edit may
--- take flags off.
+-- What is kept of the units, of their parts and of the trees of their layers, and of strays, and which unit each was
+-- before the last edit. Of each unit there is a flag, which says behind a refresh whether it was reached when that
+-- began, and one of each part. An edit may take flags off.
 pub record Bridged : Type 0 where
   pub kept : Kept
   pub parts : List KeptParts
   pub part_flags : List (List Bool)
+  pub layers : List (List TreeTrace)
   pub renewed : List Bool
   pub sources : List (Option ℕ)
   pub strays : List Stray
@@ -57,17 +59,21 @@ coded_Stray =
 
 abbrev pub coded_Bridged : Coded Bridged
 coded_Bridged =
-    code_by (Kept × (List KeptParts × (List (List Bool) × (List Bool × (List (Option ℕ) × List Stray)))))
+    code_by
+    (Kept × (List KeptParts × (List (List Bool) × (List (List TreeTrace)
+    × (List Bool × (List (Option ℕ) × List Stray))))))
     (coded× (coded_list coded_Entry)
     (coded× coded_parts
     (coded× (coded_list (coded_list coded_bool))
-    (coded× (coded_list coded_bool) (coded× (coded_list (coded_option coded_ℕ)) (coded_list coded_Stray))))))
-    (λ b. (b.kept, (b.parts, (b.part_flags, (b.renewed, (b.sources, b.strays))))))
+    (coded× (coded_list (coded_list coded_TreeTrace))
+    (coded× (coded_list coded_bool) (coded× (coded_list (coded_option coded_ℕ)) (coded_list coded_Stray)))))))
+    (λ b. (b.kept, (b.parts, (b.part_flags, (b.layers, (b.renewed, (b.sources, b.strays)))))))
     (λ p. record {
       kept = p.0;
       parts = p.1.0;
       part_flags = p.1.1.0;
-      renewed = p.1.1.1.0;
-      sources = p.1.1.1.1.0;
-      strays = p.1.1.1.1.1;
+      layers = p.1.1.1.0;
+      renewed = p.1.1.1.1.0;
+      sources = p.1.1.1.1.1.0;
+      strays = p.1.1.1.1.1.1;
     }) (λ _. refl)

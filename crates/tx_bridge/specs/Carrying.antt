@@ -13,6 +13,7 @@ use Rattle.tx_units.specs.declared.kinds.Unit.{Unit as DocUnit}
 use Rattle.tx_units.specs.declared.kinds.UnitKind.{UnitKind}
 use Rattle.tx_units.specs.declared.kinds.UnitKind.TheVariants.{Base, Style, Absent, Initial, Body}
 use Rattle.tx_walk.specs.SameTrees.{is_same}
+use Rattle.tx_walk.specs.LayerTraces.{TreeTrace}
 use Rattle.tx_bridge.specs.Entries.{Kept, units_of, traces_of}
 
 -- ---- paths
@@ -65,6 +66,10 @@ sources_from places us j (v ∷ vs) = source places us j v ∷ sources_from plac
 
 abbrev pub sources : List Mod → WideTree → List DocUnit → List DocUnit → List (Option ℕ)
 sources ms t us vs = sources_from (unit_places_after ms t us) us 0 vs
+
+-- what was kept of the layers of the old unit of this number, and nothing where there is none
+abbrev pub layers_now : List (List TreeTrace) → Option ℕ → List TreeTrace
+layers_now lss s = option_map_or (λ i. option_map_or (λ ls. ls) (slice_get lss i) []) s []
 
 -- what a new unit has, where it is the old one of this number, and old ones have these
 abbrev pub had : {A : Type 0} → List (Option A) → Option ℕ → Option A

@@ -83,6 +83,7 @@ joined_by ps b = record {
   unit = b.unit;
   kept = b.kept;
   parts = b.parts ++ ps;
+  layers = b.layers;
   shelled = b.shelled;
   renewed = b.renewed;
   source = b.source;

@@ -3,6 +3,7 @@ use Rattle.std.specs.Prelude.{◌≡◌, ℕ, true, List, [], map, Option, Some,
 use Rattle.tx_exec.specs.declared.outcome.Outcome.{Outcome}
 use Rattle.tx_exec.specs.Outcomes.{wide_outcome, NamesOnce}
 use Rattle.tx_walk.specs.declared.part.Part.{Part as DonePart}
+use Rattle.tx_walk.specs.LayerTraces.{TreeTrace}
 use Rattle.tx_units.specs.declared.kinds.Unit.{Unit as DocUnit}
 use Rattle.tx_view_form.specs.Outcomes.{Moment}
 use Rattle.tx_bridge.specs.declared.bridge.Bridge.{Bridge}
@@ -13,7 +14,7 @@ use Rattle.tx_bridge.specs.Sound.{IsSound}
 use Rattle.tx_bridge.specs.Spares.{UnitSpare, Spares, nothing_spare}
 
 abbrev pub lent_spare : Bridge → UnitSpare
-lent_spare b = record { trace = wide_outcome b.kept; parts = kept_parts b.parts }
+lent_spare b = record { trace = wide_outcome b.kept; parts = kept_parts b.parts; layers = b.layers }
 
 abbrev pub spare_of : Option Bridge → UnitSpare
 spare_of None = nothing_spare
@@ -22,6 +23,10 @@ spare_of (Some b) = lent_spare b
 abbrev pub spare_parts : Option Bridge → List DonePart
 spare_parts None = []
 spare_parts (Some b) = b.parts
+
+abbrev pub spare_layers : Option Bridge → List TreeTrace
+spare_layers None = []
+spare_layers (Some b) = b.layers
 
 abbrev pub spares_in : List Bridge → Spares
 spares_in bs = map lent_spare bs

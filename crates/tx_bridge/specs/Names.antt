@@ -7,14 +7,15 @@ use Rattle.tx_mod.specs.declared.mods.Mod.{Mod}
 use Rattle.tx_units.specs.declared.kinds.Unit.{Unit as DocUnit}
 use Rattle.tx_view_form.specs.Outcomes.{beginning}
 use Rattle.tx_parts.specs.Opening.{Sheller}
+use Rattle.tx_walk.specs.LayerTraces.{TreeTrace}
 use Rattle.tx_bridge.specs.Moments.{beginning_with}
 use Rattle.tx_bridge.specs.Entries.{Kept, units_of, nothing_kept, fresh_from}
 use Rattle.tx_bridge.specs.PartsKept.{KeptParts, fresh_parts_from, part_flags_from}
 use Rattle.tx_bridge.specs.PartsKept.{fresh_parts_by_from, part_flags_by_from}
 use Rattle.tx_bridge.specs.Spares.{Spares}
-use Rattle.tx_bridge.specs.Charges.{charges_from, charges_with, charges_by}
+use Rattle.tx_bridge.specs.Charges.{charges_from, charges_with, charges_by, AllLayersKnown}
 use Rattle.tx_bridge.specs.declared.course.Course.{Course}
-use Rattle.tx_bridge.specs.Carrying.{carried, sources, mods_of, unit_places_after}
+use Rattle.tx_bridge.specs.Carrying.{carried, sources, layers_now, mods_of, unit_places_after}
 use Rattle.tx_bridge.specs.CarryingParts.{parts_but}
 use Rattle.tx_bridge.specs.Courses.{MayFollow, HasTree}
 use Rattle.tx_bridge.specs.PartMoves.{Move, AreMoves, arrived, part_moves, all_parts_now}
@@ -67,9 +68,14 @@ FreshPartsBy start sheller kept = fresh_parts_by_from sheller (beginning_with st
 unfoldable pub PartFlagsBy : List (Name × WideTree) → Sheller → Kept → List KeptParts → List (List Bool)
 PartFlagsBy start sheller kept parts = part_flags_by_from sheller (beginning_with start) kept parts
 
--- the charges, with those of layers
-unfoldable pub ChargeBy : List (Name × WideTree) → Sheller → Kept → List KeptParts → Spares → ℕ
-ChargeBy start sheller kept parts spares = charges_by sheller (beginning_with start) kept parts spares
+-- the charges, with those of layers, where this is kept of their trees
+unfoldable pub ChargeBy : List (Name × WideTree) → Sheller → Kept → List KeptParts → List (List TreeTrace) → Spares
+    → ℕ
+ChargeBy start sheller kept parts layers spares = charges_by sheller (beginning_with start) kept parts layers spares
+
+-- By what is kept of the layers of units, none of their trees is to be evaluated, but in a unit that is over.
+unfoldable pub KnowsLayers : List (Name × WideTree) → Sheller → Kept → List (List TreeTrace) → Type 0
+KnowsLayers start sheller kept layers = AllLayersKnown sheller (beginning_with start) (units_of kept) layers
 
 -- ---- through an edit
 
@@ -93,9 +99,13 @@ CarryStrays moves n = arrived moves n
 unfoldable pub CarryParts : List KeptParts → List Move → List (Option ℕ) → List KeptParts
 CarryParts parts moves sources = all_parts_now parts moves 0 sources
 
--- what stays of it where all modifications of the document are inside the unit of number i
+-- what stays of the parts where all modifications of the document are inside the unit of number i
 unfoldable pub CarryWithin : ℕ → List Mod → WideTree → List DocUnit → List KeptParts → List KeptParts
 CarryWithin i ms t us parts = parts_but ms t i us parts
+
+-- what stays of what is kept of the layers of units, where the new units are these old ones
+unfoldable pub CarryLayers : List (List TreeTrace) → List (Option ℕ) → List (List TreeTrace)
+CarryLayers layers sources = map (layers_now layers) sources
 
 -- the strays that stay where all modifications of the document are inside the unit of number i
 unfoldable pub StraysBeside : ℕ → List DocUnit → List Stray → List Stray

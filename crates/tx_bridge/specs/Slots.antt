@@ -24,6 +24,7 @@ given_from place i b j (w ∷ ws) =
       unit = w.unit;
       kept = b.kept;
       parts = b.parts;
+      layers = b.layers;
       shelled = b.shelled;
       renewed = w.renewed;
       source = Some i;
@@ -39,7 +40,15 @@ given_all i (place ∷ places) (b ∷ bs) new = given_all (i + 1) places bs (giv
 
 -- the unit with nothing kept
 abbrev pub fresh_bridge : DocUnit → Bridge
-fresh_bridge u = record { unit = u; kept = Over; parts = []; shelled = false; renewed = false; source = None }
+fresh_bridge u = record {
+  unit = u;
+  kept = Over;
+  parts = [];
+  layers = [];
+  shelled = false;
+  renewed = false;
+  source = None;
+}
 
 abbrev pub paths_in : List Bridge → List (Option (List ℕ))
 paths_in bs = map (λ b. b.unit.path) bs

@@ -20,6 +20,7 @@ use Rattle.tx_bridge.specs.Settled.{AreSettled}
 use Rattle.tx_bridge.specs.PartsKept.{KeptParts}
 use Rattle.tx_bridge.specs.HeldParts.{PartsHold, kept_parts, flags_of_parts}
 use Rattle.tx_walk.specs.declared.part.Part.{Part as DonePart}
+use Rattle.tx_walk.specs.LayerTraces.{TreeTrace}
 use Rattle.tx_bridge.specs.InPlace.{numbers_but}
 use Rattle.tx_bridge.specs.declared.strays.Stray.{Stray as DoneStray}
 use Rattle.tx_bridge.specs.Strays.{AreStrays, AreTidy, strays_in}
@@ -48,6 +49,9 @@ parts_in bs = map (λ b. kept_parts b.parts) bs
 abbrev pub part_flags_in : List Bridge → List (List Bool)
 part_flags_in bs = map (λ b. flags_of_parts b.parts) bs
 
+abbrev pub layers_in : List Bridge → List (List TreeTrace)
+layers_in bs = map (λ b. b.layers) bs
+
 abbrev pub flags_of : List Bridge → List Bool
 flags_of bs = map (λ b. b.renewed) bs
 
@@ -71,6 +75,7 @@ changed_bridge t ps b =
       unit = unit_with t b.unit;
       kept = Over;
       parts = ps;
+      layers = b.layers;
       shelled = b.shelled;
       renewed = b.renewed;
       source = b.source;

@@ -8,8 +8,8 @@ ghost use Rattle.tx_bridge.specs.Reached.{fits};
 ghost use Rattle.tx_parts.specs.Opening.{opens_nothing, shells_by};
 ghost use Rattle.tx_bridge.specs.Reached.{unit_stays_by};
 ghost use Rattle.tx_bridge.specs.PartsKept.{has_parts, fresh_parts_by, part_flags_by};
-ghost use Rattle.tx_bridge.specs.Charges.{whole_charge, unit_charge_by, charge_by};
-ghost use Rattle.tx_bridge.specs.Lent.{spare_of, spare_parts, IsSpareOf, IsUsable};
+ghost use Rattle.tx_bridge.specs.Charges.{whole_charge, unit_charge_by, charge_by, LayersKnown};
+ghost use Rattle.tx_bridge.specs.Lent.{spare_of, spare_parts, spare_layers, IsSpareOf, IsUsable};
 ghost use Rattle.tx_bridge.specs.HeldParts.{PartsHold, kept_parts, flags_of_parts, unmarked};
 ghost use Rattle.tx_bridge.specs.Settled.{AgreesWith, IsSilent};
 ghost use Rattle.tx_bridge.specs.Sound.{IsSound, entry_of, changed_bridge};
@@ -17,6 +17,7 @@ ghost use Rattle.tx_bridge.specs.Others.{put_from};
 
 use crate::fitting::{fits, is_silent, stays_kept};
 use crate::moments::{Evaluated, Moment};
+use crate::unit_layers::UnitLayers;
 use crate::unit_parts::{UnitParts, has_parts};
 use std::alloc::Global;
 use std::mem;
@@ -27,7 +28,7 @@ use tx_exec_form::trace_laws;
 use tx_parts::{opened_cost_law, opened_fitting_law, opened_standing_law, opener_law};
 use tx_tree::Tree;
 use tx_units::Unit;
-use tx_walk::{Opener, Part, share_trace};
+use tx_walk::{LayerTrace, Opener, Part, share_trace};
 
 // How it is known which unit each one was before the last edit.
 #[derive(Clone, Copy, Drop)]
@@ -38,14 +39,15 @@ pub(crate) enum Way {
     InPlace(usize),
 }
 
-// A unit, the trace that is kept of it, or `Over` where nothing is kept, what is kept of its parts, whether these may
-// be those of an opener that opens something, whether the unit was reached when the last refresh began, and which unit
-// it was before the last edit that wasn't carried in place.
+// A unit, the trace that is kept of it, or `Over` where nothing is kept, what is kept of its parts and of its layers'
+// trees, whether the parts may be those of an opener that opens something, whether the unit was reached when the last
+// refresh began, and which unit it was before the last edit that wasn't carried in place.
 #[derive(Drop)]
 pub(crate) struct Bridge {
     pub(crate) unit: Unit,
     pub(crate) kept: Outcome,
     pub(crate) parts: UnitParts,
+    pub(crate) layers: UnitLayers,
     pub(crate) shelled: bool,
     pub(crate) renewed: bool,
     pub(crate) source: Option<usize>,
@@ -71,6 +73,16 @@ fn lent_parts<'a>(spare: Option<&'a Bridge>) -> &'a [Part]
     }
 }
 
+// What is spare of the trees of the unit's layers.
+fn lent_layers<'a>(spare: Option<&'a Bridge>) -> &'a [LayerTrace]
+    ensures { result.now ≡ spare_layers (option_copied spare.entry) }
+{
+    match spare {
+        None => &[],
+        Some(other) => other.layers.all(),
+    }
+}
+
 impl Bridge {
     // The unit with nothing kept.
     pub(crate) fn new(alloc: Global, unit: Unit) -> Bridge
@@ -78,6 +90,7 @@ impl Bridge {
           unit = unit;
           kept = Outcome.Over;
           parts = [];
+          layers = [];
           shelled = false;
           renewed = false;
           source = None;
@@ -87,6 +100,7 @@ impl Bridge {
             unit,
             kept: Outcome::Over,
             parts: UnitParts::none(alloc),
+            layers: UnitLayers::none(alloc),
             shelled: false,
             renewed: false,
             source: None,
@@ -112,6 +126,7 @@ impl Bridge {
           unit = self.old.unit;
           kept = old.old.kept;
           parts = old.old.parts;
+          layers = old.old.layers;
           shelled = old.old.shelled;
           renewed = self.old.renewed;
           source = Some i;
@@ -119,6 +134,7 @@ impl Bridge {
     {
         self.kept = mem::replace(&mut old.kept, Outcome::Over);
         mem::swap(&mut self.parts, &mut old.parts);
+        mem::swap(&mut self.layers, &mut old.layers);
         self.shelled = old.shelled;
         self.source = Some(i);
     }
@@ -130,6 +146,7 @@ impl Bridge {
           unit = self.old.unit;
           kept = self.old.kept;
           parts = unmarked self.old.parts;
+          layers = self.old.layers;
           shelled = self.old.shelled;
           renewed = false;
           source = self.old.source;
@@ -182,6 +199,7 @@ impl Bridge {
             return Ok(Evaluated {
                 outcome: share_outcome(alloc, outcome)?,
                 parts: UnitParts::none(alloc),
+                layers: UnitLayers::none(alloc),
                 charge: 0,
             });
         }
@@ -190,6 +208,7 @@ impl Bridge {
         Ok(Evaluated {
             outcome,
             parts: UnitParts::none(alloc),
+            layers: UnitLayers::none(alloc),
             charge,
         })
     }
@@ -216,14 +235,28 @@ impl Bridge {
         ensures hold { IfOk result (λ e. PartsHold shelled self.now.unit (wide_outcome e.outcome) e.parts) }
         ensures charge { IfOk result (λ e. e.charge
             ≡ unit_charge_by (shells_by (O.opens opener.now)) moment.old self.now.unit
-            (kept_parts self.now.parts) (spare_of (option_copied spare.entry))) }
+            (kept_parts self.now.parts) self.now.layers (spare_of (option_copied spare.entry))) }
+        ensures layers { IfOk result (λ e. LayersKnown (shells_by (O.opens opener.now)) moment.old self.now.unit
+            e.layers) }
         ensures counted { IfOk result (λ e. steps.new ≡ steps.old + e.charge) }
         ensures moment { moment.new ≡ moment.old }
     {
         if has_parts(&self.unit) {
             let lent = lent_parts(spare);
+            let lent_layers = lent_layers(spare);
             let kept = self.parts.all();
-            return moment.by_parts(alloc, &self.unit, opener, shelled, kept, lent, steps);
+            let layers = self.layers.all();
+            return moment.by_parts(
+                alloc,
+                &self.unit,
+                opener,
+                shelled,
+                kept,
+                lent,
+                layers,
+                lent_layers,
+                steps,
+            );
         }
         self.evaluated_whole(alloc, moment, spare, steps)
     }
@@ -259,7 +292,9 @@ impl Bridge {
         ensures parts_same { self.new.renewed ≡ false → kept_parts self.new.parts ≡ kept_parts self.old.parts }
         ensures moment { moment.new ≡ moment.old }
         ensures charge { IfOk result (λ n. n ≡ unit_charge_by (shells_by (O.opens opener.now)) moment.old self.old.unit
-            (kept_parts self.old.parts) (spare_of (option_copied spare.entry))) }
+            (kept_parts self.old.parts) self.old.layers (spare_of (option_copied spare.entry))) }
+        ensures layers { OnOk result (LayersKnown (shells_by (O.opens opener.now)) moment.old self.old.unit
+            self.new.layers) }
         ensures counted { IfOk result (λ n. steps.new ≡ steps.old + n) }
         ensures sound { IsSound self.new }
         ensures err { OnErr result (self.new ≡ self.old) }
@@ -274,6 +309,7 @@ impl Bridge {
         let stays = stays_kept(used, own, parts);
         self.kept = evaluated.outcome;
         self.parts = evaluated.parts;
+        self.layers = evaluated.layers;
         self.shelled = shelled;
         self.renewed = !stays;
         Ok(evaluated.charge)
@@ -324,7 +360,9 @@ impl Bridge {
             × (moment.new.env ≡ env_behind moment.old.env (wide_outcome self.old.kept))) }
         ensures charge { IfOk result (λ p. p.0
             ≡ charge_by (shells_by (O.opens opener.now)) moment.old (entry_of self.old)
-            (kept_parts self.old.parts) (spare_of (option_copied spare.entry))) }
+            (kept_parts self.old.parts) self.old.layers (spare_of (option_copied spare.entry))) }
+        ensures layers { OnOk result (LayersKnown (shells_by (O.opens opener.now)) moment.old self.old.unit
+            self.new.layers) }
         ensures counted { IfOk result (λ p. steps.new ≡ steps.old + p.0) }
         ensures most { IfOk result (λ p. p.0 + moment.new.left ≤ moment.old.left) }
         ensures sound { IsSound self.new }

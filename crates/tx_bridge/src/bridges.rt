@@ -22,12 +22,12 @@ ghost use Rattle.tx_bridge.specs.Reached.{reached_from, reached_by_from};
 ghost use Rattle.tx_bridge.specs.MovedParts.{AreMovedParts};
 ghost use Rattle.tx_bridge.specs.PartsKept.{KeptParts, PartsStay, fresh_parts_by_from, part_flags_by_from};
 ghost use Rattle.tx_bridge.specs.Spares.{spares_of};
-ghost use Rattle.tx_bridge.specs.Charges.{charges_by};
+ghost use Rattle.tx_bridge.specs.Charges.{charges_by, AllLayersKnown};
 ghost use Rattle.tx_bridge.specs.Lent.{spares_in, HaveUnitsOf};
 ghost use Rattle.tx_bridge.specs.HeldParts.{AllPartsHold, kept_parts, flags_of_parts};
 ghost use Rattle.tx_bridge.specs.Settled.{AreSettled};
 ghost use Rattle.tx_bridge.specs.Sound.{IsSound, AllHold, entry_of, entries_of, parts_in, part_flags_in, flags_of};
-ghost use Rattle.tx_bridge.specs.Sound.{sources_in, source_by};
+ghost use Rattle.tx_bridge.specs.Sound.{layers_in, sources_in, source_by};
 ghost use Rattle.tx_bridge.specs.UnitLists.{AreUnits, IsPlaced};
 ghost use Rattle.tx_bridge.specs.Carrying.{AllLead, AllStand, StandsNow, AreSameBodies, HaveSameTrees};
 ghost use Rattle.tx_bridge.specs.Carrying.{through, mods_of};
@@ -37,9 +37,9 @@ ghost use Rattle.tx_mod.specs.declared.mods.Mod.{Mod as Change};
 ghost use Rattle.tx_bridge.specs.InPlace.{IsOneChanged, NoneChanged, numbers_but};
 ghost use Rattle.tx_bridge.specs.Names.{Empty, EmptyParts, Fresh, FreshParts, PartFlags, Charge};
 ghost use Rattle.tx_bridge.specs.Names.{FreshFrom, FreshPartsFrom, PartFlagsFrom, ChargeFrom};
-ghost use Rattle.tx_bridge.specs.Names.{FreshPartsBy, PartFlagsBy, ChargeBy};
+ghost use Rattle.tx_bridge.specs.Names.{FreshPartsBy, PartFlagsBy, ChargeBy, KnowsLayers};
 ghost use Rattle.tx_bridge.specs.Names.{Carry, CarryParts, CarryStrays, CarryWithin, IsCourse, PartMoves, Sources};
-ghost use Rattle.tx_bridge.specs.Names.{StraysBeside};
+ghost use Rattle.tx_bridge.specs.Names.{CarryLayers, StraysBeside};
 ghost use Rattle.tx_bridge.specs.Strays.{AreStrays, StandAside, kept_strays};
 
 use crate::arriving::put_moves;
@@ -61,7 +61,7 @@ use tx_mod::{Mod, carried_law, carried_list_law};
 use tx_parts::{opened_cost_law, opened_fitting_law, opened_standing_law, opener_law};
 use tx_tree::Tree;
 use tx_units::Unit;
-use tx_walk::{Closed, Opener, Part};
+use tx_walk::{Closed, LayerTrace, Opener, Part};
 
 /// All units, each with the trace that is kept of it, or nothing.
 ///
@@ -78,7 +78,8 @@ pub struct Bridges {
 
 impl Model for Bridges {
     ghost use Rattle.tx_bridge.specs.Bridged.{Bridged, coded_Bridged};
-    ghost use Rattle.tx_bridge.specs.Sound.{AreRight, entries_of, parts_in, part_flags_in, flags_of, sources_by};
+    ghost use Rattle.tx_bridge.specs.Sound.{AreRight, entries_of, parts_in, part_flags_in, layers_in};
+    ghost use Rattle.tx_bridge.specs.Sound.{flags_of, sources_by};
     ghost use Rattle.tx_bridge.specs.Strays.{strays_in};
 
     ghost Value = { Bridged };
@@ -89,6 +90,7 @@ impl Model for Bridges {
       kept = entries_of b.bridges.items;
       parts = parts_in b.bridges.items;
       part_flags = part_flags_in b.bridges.items;
+      layers = layers_in b.bridges.items;
       renewed = flags_of b.bridges.items;
       sources = sources_by b.way b.bridges.items;
       strays = strays_in b.strays.items;
@@ -104,6 +106,7 @@ fn bridges_of(alloc: Global, units: Vec<Unit>) -> Result<Vec<Bridge>, Memory>
           unit = u;
           kept = Outcome.Over;
           parts = [];
+          layers = [];
           shelled = false;
           renewed = false;
           source = None;
@@ -169,7 +172,9 @@ fn refresh_all<O: Opener, L: Ledger>(
     ensures renewed { OnOk result (flags_of bridges.new
         ≡ reached_by_from (shells_by (O.opens opener.now)) start (entries_of bridges.old) (parts_in bridges.old)) }
     ensures charge { IfOk result (λ n. n ≡ charges_by (shells_by (O.opens opener.now)) start (entries_of bridges.old)
-        (parts_in bridges.old) (spares_in spare.now)) }
+        (parts_in bridges.old) (layers_in bridges.old) (spares_in spare.now)) }
+    ensures layers { OnOk result (AllLayersKnown (shells_by (O.opens opener.now)) start
+        (units_of (entries_of bridges.old)) (layers_in bridges.new)) }
     ensures counted { IfOk result (λ n. steps.new ≡ steps.old + n) }
     ensures most { IfOk result (λ n. n ≤ MOST_VIEW_STEPS) }
     ensures sound { All IsSound bridges.new }
@@ -182,7 +187,8 @@ fn refresh_all<O: Opener, L: Ledger>(
     ensures refused { OnErr result ((n : ℕ) × (entries_of bridges.new
         ≡ take n (fresh_from start (units_of (entries_of bridges.old))) ++ drop n (entries_of bridges.old))
         × (parts_in bridges.new ≡ take n (fresh_parts_by_from (shells_by (O.opens opener.now)) start
-        (units_of (entries_of bridges.old))) ++ drop n (parts_in bridges.old))) }
+        (units_of (entries_of bridges.old))) ++ drop n (parts_in bridges.old))
+        × (drop n (layers_in bridges.new) ≡ drop n (layers_in bridges.old))) }
 {
     let mut moment = start;
     let mut still = settled;
@@ -351,15 +357,17 @@ impl Bridges {
         ensures strays_stay { OnErr result (self.new.strays ≡ self.old.strays) }
     {
         opener_law();
+        opened_cost_law();
         self.refresh_by(alloc, start, spare, &Closed, false, steps)
     }
 
     /// The same where tags have the shells that the opener tells: these are gone into, so that what stands inside are
-    /// parts. The trees of their layers are evaluated at each refresh, and nothing is kept of them.
+    /// parts. What the trees of their layers came to is kept as well.
     ///
-    /// A paragraph of the body is charged its parts that neither what is kept holds nor the spare, the trees of layers,
-    /// and one for each node of what the layers' names are set to, whatever is kept of the whole. It is reached also
-    /// where its parts aren't those that were kept, as after a refresh with another opener.
+    /// A paragraph of the body is charged its parts and the trees of its layers that neither what is kept holds nor the
+    /// spare, and one for each node of what the layers' names are set to by these trees, whatever is kept of the whole.
+    /// So another refresh with this opener, at which names have the same, is charged nothing for layers. A paragraph is
+    /// reached also where its parts aren't those that were kept, as after a refresh with another opener.
     pub fn refresh_with<O: Opener, L: Ledger>(
         &mut self,
         alloc: Global,
@@ -380,7 +388,9 @@ impl Bridges {
         ensures renewed { OnOk result (self.new.renewed ≡ reached_by_from (shells_by (O.opens opener.now))
             (beginning_with start.now) self.old.kept self.old.parts) }
         ensures charge { IfOk result (λ n. n ≡ ChargeBy start.now (shells_by (O.opens opener.now)) self.old.kept
-            self.old.parts (spares_of (option_copied spare.entry))) }
+            self.old.parts self.old.layers (spares_of (option_copied spare.entry))) }
+        ensures layers { OnOk result
+            (KnowsLayers start.now (shells_by (O.opens opener.now)) self.old.kept self.new.layers) }
         ensures counted { IfOk result (λ n. steps.new ≡ steps.old + n) }
         ensures most { IfOk result (λ n. n ≤ MOST_VIEW_STEPS) }
         ensures units { units_of self.new.kept ≡ units_of self.old.kept }
@@ -390,7 +400,8 @@ impl Bridges {
         ensures refused { OnErr result ((n : ℕ) × (self.new.kept
             ≡ take n (FreshFrom start.now self.old.kept) ++ drop n self.old.kept)
             × (self.new.parts ≡ take n (FreshPartsBy start.now (shells_by (O.opens opener.now)) self.old.kept)
-            ++ drop n self.old.parts)) }
+            ++ drop n self.old.parts)
+            × (drop n self.new.layers ≡ drop n self.old.layers)) }
         ensures strays { OnOk result (self.new.strays ≡ []) }
         ensures strays_stay { OnErr result (self.new.strays ≡ self.old.strays) }
     {
@@ -421,7 +432,9 @@ impl Bridges {
         ensures renewed { OnOk result (self.new.renewed ≡ reached_by_from (shells_by (O.opens opener.now))
             (beginning_with start.now) self.old.kept self.old.parts) }
         ensures charge { IfOk result (λ n. n ≡ ChargeBy start.now (shells_by (O.opens opener.now)) self.old.kept
-            self.old.parts (spares_of (option_copied spare.entry))) }
+            self.old.parts self.old.layers (spares_of (option_copied spare.entry))) }
+        ensures layers { OnOk result
+            (KnowsLayers start.now (shells_by (O.opens opener.now)) self.old.kept self.new.layers) }
         ensures counted { IfOk result (λ n. steps.new ≡ steps.old + n) }
         ensures most { IfOk result (λ n. n ≤ MOST_VIEW_STEPS) }
         ensures units { units_of self.new.kept ≡ units_of self.old.kept }
@@ -431,7 +444,8 @@ impl Bridges {
         ensures refused { OnErr result ((n : ℕ) × (self.new.kept
             ≡ take n (FreshFrom start.now self.old.kept) ++ drop n self.old.kept)
             × (self.new.parts ≡ take n (FreshPartsBy start.now (shells_by (O.opens opener.now)) self.old.kept)
-            ++ drop n self.old.parts)) }
+            ++ drop n self.old.parts)
+            × (drop n self.new.layers ≡ drop n self.old.layers)) }
         ensures strays { OnOk result (self.new.strays ≡ []) }
         ensures strays_stay { OnErr result (self.new.strays ≡ self.old.strays) }
     {
@@ -497,6 +511,7 @@ impl Bridges {
             → StandAside u self.new.strays) }
         ensures stay { OnOk result ((buffer ≡ 0 → ⊥) → (u : WideTree) → StandAside u self.old.strays
             → StandAside u self.new.strays) }
+        ensures layers { OnOk result (self.new.layers ≡ CarryLayers self.old.layers self.new.sources) }
         ensures sources { OnOk result
             (self.new.sources ≡ Sources buffer mods.now before.now (units_of self.old.kept) units.items) }
         ensures once { OnOk result ((i j k : ℕ) → slice_get self.new.sources j ≡ Some (Some i)
@@ -575,6 +590,7 @@ impl Bridges {
             → StandAside u self.new.strays) }
         ensures stay { OnOk result ((buffer ≡ 0 → ⊥) → (u : WideTree) → StandAside u self.old.strays
             → StandAside u self.new.strays) }
+        ensures layers { OnOk result (self.new.layers ≡ CarryLayers self.old.layers self.new.sources) }
         ensures sources { OnOk result
             (self.new.sources ≡ Sources buffer mods.now before.now (units_of self.old.kept) units.items) }
         ensures once { OnOk result ((i j k : ℕ) → slice_get self.new.sources j ≡ Some (Some i)
@@ -653,6 +669,7 @@ impl Bridges {
             (units_with changed tree (units_of self.old.kept)) }
         ensures once { (i j k : ℕ) → slice_get self.new.sources j ≡ Some (Some i)
             → slice_get self.new.sources k ≡ Some (Some i) → j ≡ k }
+        ensures layers { self.new.layers ≡ self.old.layers }
         ensures numbers { self.new.sources ≡ numbers_but changed 0 (length (units_of self.old.kept)) }
         ensures units { units_of self.new.kept ≡ units_with changed tree (units_of self.old.kept) }
         ensures strays { self.new.strays ≡ StraysBeside changed (units_of self.old.kept) self.old.strays }
@@ -697,6 +714,18 @@ impl Bridges {
         match self.bridges.get(i as usize) {
             None => None,
             Some(bridge) => Some(bridge.parts.all()),
+        }
+    }
+
+    /// What is kept of the trees of the unit's layers, and None past the last unit. Each trace is its tree's wherever
+    /// the names that it looked up have the same.
+    pub fn layers(&self, i: u32) -> Option<&[LayerTrace]>
+        ensures { MatchOption result (slice_get self.now.kept i ≡ None)
+            (λ ls. slice_get self.now.layers i ≡ Some ls.now) }
+    {
+        match self.bridges.get(i as usize) {
+            None => None,
+            Some(bridge) => Some(bridge.layers.all()),
         }
     }
 

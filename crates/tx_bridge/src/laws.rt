@@ -13,10 +13,13 @@ ghost use Rattle.tx_view_form.specs.Outcomes.{Moment};
 ghost use Rattle.tx_bridge.specs.Entries.{Entry, Kept, outcome_of};
 ghost use Rattle.tx_parts.specs.Opening.{Sheller, closed};
 ghost use Rattle.tx_parts.specs.Shellers.{IsSheller};
+ghost use Rattle.tx_parts.specs.LayerCosts.{Holder};
+ghost use Rattle.tx_walk.specs.LayerTraces.{TreeTrace, holds_either};
 ghost use Rattle.tx_bridge.specs.Reached.{fits, unit_stays_by};
 ghost use Rattle.tx_bridge.specs.PartsKept.{fresh_parts, fresh_parts_by};
 ghost use Rattle.tx_bridge.specs.Spares.{UnitSpare};
 ghost use Rattle.tx_bridge.specs.Charges.{layers_charge, charge_by, charge_with, charges_with, charges_from};
+ghost use Rattle.tx_bridge.specs.Charges.{LayersHold, LayersKnown};
 ghost use Rattle.tx_bridge.specs.UnitLists.{AreUnits, IsPlaced};
 ghost use Rattle.tx_bridge.specs.Carrying.{AllStand, AreSameBodies};
 ghost use Rattle.tx_bridge.specs.PartsKept.{KeptParts};
@@ -58,17 +61,19 @@ pub fn keeping_law()
 
 /// A law: where nothing is spare, `refresh_from` charges what `refresh` does. A unit is charged nothing where a trace
 /// that is spare of it can be used at the moment, and its parts are spare as well, as a refresh leaves both of them, at
-/// whatever moment. Where trees have shells, it is charged then what its layers cost.
+/// whatever moment. Where trees have shells, it is charged then what its layers cost, by what is kept of them and is
+/// spare.
 pub fn spare_law()
     ensures nothing { (m : Moment) (es : Kept) (pss : List KeptParts)
         → charges_with m es pss [] ≡ charges_from m es pss }
-    ensures whole { (m n : Moment) (e : Entry) (ps : KeptParts) (trace : WideTrace) → IsPlaced e.unit
-        → outcome_of n e.unit ≡ Some trace → fits m (Some trace) ≡ true
-        → charge_with m e ps (record { trace = Some trace; parts = fresh_parts n e.unit }) ≡ 0 }
+    ensures whole { (m n : Moment) (e : Entry) (ps : KeptParts) (rs : List TreeTrace) (trace : WideTrace)
+        → IsPlaced e.unit → outcome_of n e.unit ≡ Some trace → fits m (Some trace) ≡ true
+        → charge_with m e ps (record { trace = Some trace; parts = fresh_parts n e.unit; layers = rs }) ≡ 0 }
     ensures layers { (sheller : Sheller) → IsSheller sheller → (m n : Moment) (e : Entry) (ps : KeptParts)
-        (trace : WideTrace) → IsPlaced e.unit → outcome_of n e.unit ≡ Some trace → fits m (Some trace) ≡ true
-        → charge_by sheller m e ps (record { trace = Some trace; parts = fresh_parts_by sheller n e.unit })
-        ≡ layers_charge sheller m e.unit }
+        (ls rs : List TreeTrace) (trace : WideTrace) → IsPlaced e.unit → outcome_of n e.unit ≡ Some trace
+        → fits m (Some trace) ≡ true → charge_by sheller m e ps ls
+        (record { trace = Some trace; parts = fresh_parts_by sheller n e.unit; layers = rs })
+        ≡ layers_charge (holds_either ls rs) sheller m e.unit }
 {
     trace_laws();
     opener_law();
@@ -78,15 +83,21 @@ pub fn spare_law()
 }
 
 /// A law: a unit stays where its trace can be used at the moment, and its parts are kept as well, as a refresh leaves
-/// both of them, at whatever moment. A unit that stays is charged what its layers cost, whatever is spare of it: where
-/// nothing has a shell, nothing.
+/// both of them, at whatever moment. A unit that stays is charged what its layers cost, by what is kept of them and
+/// spare: where nothing has a shell, nothing. So it is where nothing was left to evaluate of its layers at the moment
+/// of its refresh, and what is kept of them is what it was then.
 pub fn staying_law()
     ensures stays { (sheller : Sheller) → IsSheller sheller → (m n : Moment) (e : Entry) (trace : WideTrace)
         → IsPlaced e.unit → e.trace ≡ Some trace → outcome_of n e.unit ≡ Some trace → fits m (Some trace) ≡ true
         → unit_stays_by sheller m e (fresh_parts_by sheller n e.unit) ≡ true }
-    ensures layers { (sheller : Sheller) (m : Moment) (e : Entry) (ks : KeptParts) (s : UnitSpare)
-        → unit_stays_by sheller m e ks ≡ true → charge_by sheller m e ks s ≡ layers_charge sheller m e.unit }
-    ensures nothing { (m : Moment) (e : Entry) → layers_charge closed m e.unit ≡ 0 }
+    ensures layers { (sheller : Sheller) (m : Moment) (e : Entry) (ks : KeptParts)
+        (ls : List TreeTrace) (s : UnitSpare) → unit_stays_by sheller m e ks ≡ true
+        → charge_by sheller m e ks ls s ≡ layers_charge (holds_either ls s.layers) sheller m e.unit }
+    ensures again { (sheller : Sheller) → IsSheller sheller → (m n : Moment) (e : Entry) (ls : List TreeTrace)
+        (s : UnitSpare) (trace : WideTrace) → IsPlaced e.unit → e.trace ≡ Some trace
+        → outcome_of n e.unit ≡ Some trace → fits m (Some trace) ≡ true → LayersHold ls
+        → LayersKnown sheller n e.unit ls → charge_by sheller m e (fresh_parts_by sheller n e.unit) ls s ≡ 0 }
+    ensures nothing { (held : Holder) (m : Moment) (e : Entry) → layers_charge held closed m e.unit ≡ 0 }
 {
     trace_laws();
     opened_fitting_law();

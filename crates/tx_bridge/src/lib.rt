@@ -19,6 +19,7 @@ mod moments;
 mod paths_after;
 mod replacing;
 mod strays;
+mod unit_layers;
 mod unit_parts;
 mod within;
 

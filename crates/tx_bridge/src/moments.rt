@@ -14,10 +14,11 @@ ghost use Rattle.tx_bridge.specs.Entries.{outcome_of};
 ghost use Rattle.tx_bridge.specs.Moments.{IsPaid, beginning_with};
 ghost use Rattle.tx_parts.specs.Opening.{opens_nothing, shells_by};
 ghost use Rattle.tx_bridge.specs.PartsKept.{has_parts, fresh_parts_by, part_flags_by};
-ghost use Rattle.tx_bridge.specs.Charges.{parts_charge_by};
+ghost use Rattle.tx_bridge.specs.Charges.{parts_charge_by, LayersKnown};
 ghost use Rattle.tx_bridge.specs.HeldParts.{HoldsPart, PartsHold, kept_parts, flags_of_parts};
 ghost use Rattle.tx_bridge.specs.UnitLists.{IsPlaced};
 
+use crate::unit_layers::UnitLayers;
 use crate::unit_parts::UnitParts;
 use std::alloc::Global;
 use std::marker::Model;
@@ -31,7 +32,7 @@ use tx_parts::{opened_fitting_law, opened_standing_law, opener_law};
 use tx_tree::{Label, text_of};
 use tx_units::Unit;
 use tx_view_form::{MOST_UNIT_STEPS, MOST_VIEW_STEPS};
-use tx_walk::{Opener, Part, walk_with, walked_law};
+use tx_walk::{LayerTrace, Opener, Part, walk_with, walked_law};
 
 // Sets each name to its tree, in order. Where there is none, as with most paragraphs, it has nothing to do.
 fn set_names(env: &mut Env, writes: &Writes) -> Result<(), Memory>
@@ -45,11 +46,12 @@ fn set_names(env: &mut Env, writes: &Writes) -> Result<(), Memory>
     env.overlay(writes)
 }
 
-// What a unit comes to, its parts, and what it was charged.
+// What a unit comes to, its parts, what the trees of its layers came to, and what it was charged.
 #[derive(Drop)]
 pub(crate) struct Evaluated {
     pub(crate) outcome: Outcome,
     pub(crate) parts: UnitParts,
+    pub(crate) layers: UnitLayers,
     pub(crate) charge: u64,
 }
 
@@ -145,8 +147,8 @@ impl Moment {
         }
     }
 
-    // What the paragraph of the body comes to, of which these parts are kept, and these are spare. Where it isn't
-    // `shelled`, the opener opens nothing. The moment stays.
+    // What the paragraph of the body comes to, of which these parts and trees of layers are kept, and these are spare.
+    // Where it isn't `shelled`, the opener opens nothing. The moment stays.
     pub(crate) fn by_parts<O: Opener, L: Ledger>(
         &mut self,
         alloc: Global,
@@ -155,6 +157,8 @@ impl Moment {
         shelled: bool,
         kept: &[Part],
         spare: &[Part],
+        layers: &[LayerTrace],
+        spare_layers: &[LayerTrace],
         steps: &mut Steps<L>,
     ) -> Result<Evaluated, Memory>
         requires nested { has_parts unit.now ≡ true }
@@ -173,7 +177,8 @@ impl Moment {
         ensures hold { IfOk result (λ e. PartsHold shelled unit.now (wide_outcome e.outcome) e.parts) }
         ensures charge { IfOk result (λ e. e.charge
             ≡ parts_charge_by (shells_by (O.opens opener.now)) self.old unit.now (kept_parts kept.now)
-            (kept_parts spare.now)) }
+            (kept_parts spare.now) layers.now spare_layers.now) }
+        ensures layers { IfOk result (λ e. LayersKnown (shells_by (O.opens opener.now)) self.old unit.now e.layers) }
         ensures counted { IfOk result (λ e. steps.new ≡ steps.old + e.charge) }
         ensures stays { self.new ≡ self.old }
     {
@@ -191,13 +196,14 @@ impl Moment {
             opener,
             kept,
             spare,
-            &[],
-            &[],
+            layers,
+            spare_layers,
             steps,
         )?;
         Ok(Evaluated {
             outcome: walked.outcome,
             parts: UnitParts::new(walked.parts),
+            layers: UnitLayers::new(walked.layers),
             charge: walked.charge,
         })
     }

@@ -46,13 +46,31 @@ const OPENED: &[OpenedRow] = &[
         19,
         "x/x x/0/0x/0/1x",
     ),
+    // it was opened there too: its parts and its layers hold all
+    OpenedRow(
+        "(box (document \"abc\" (value \"k\")))",
+        None,
+        Some(Refresh("m \"7\";k \"ab\"", true)),
+        Refresh("m \"7\";k \"ab\"", true),
+        0,
+        "x/x x/0/0x/0/1x",
+    ),
+    // the layer that looks up another name is evaluated, and the other one is held
+    OpenedRow(
+        "(box (document \"abc\" (value \"k\")))",
+        None,
+        Some(Refresh("m \"7\";k \"ab\"", true)),
+        Refresh("m \"89\";k \"ab\"", true),
+        6,
+        "x/x x/0/0x/0/1x",
+    ),
     // again
     OpenedRow(
         "(box (document \"abc\" (value \"k\")))",
         Some(Refresh("m \"7\";k \"ab\"", true)),
         None,
         Refresh("m \"7\";k \"ab\"", true),
-        9,
+        0,
         "./. ./0/0./0/1.",
     ),
     // a name that one part looks up has something else
@@ -61,7 +79,7 @@ const OPENED: &[OpenedRow] = &[
         Some(Refresh("m \"7\";k \"ab\"", true)),
         None,
         Refresh("m \"7\";k \"abc\"", true),
-        16,
+        7,
         "./. x/0/0./0/1x",
     ),
     // one that a layer looks up
@@ -70,7 +88,7 @@ const OPENED: &[OpenedRow] = &[
         Some(Refresh("m \"7\";k \"ab\"", true)),
         None,
         Refresh("m \"89\";k \"ab\"", true),
-        10,
+        6,
         "./. x/0/0./0/1.",
     ),
     // and that a part has through the layer
@@ -79,7 +97,7 @@ const OPENED: &[OpenedRow] = &[
         Some(Refresh("m \"7\"", true)),
         None,
         Refresh("m \"89\"", true),
-        16,
+        12,
         "./. x/0x",
     ),
     // a box in a box has four layers
@@ -88,7 +106,7 @@ const OPENED: &[OpenedRow] = &[
         Some(Refresh("m \"7\"", true)),
         None,
         Refresh("m \"7\"", true),
-        18,
+        0,
         "./. ./0/0. ./.",
     ),
     // the spare holds what is kept no more
@@ -97,7 +115,7 @@ const OPENED: &[OpenedRow] = &[
         Some(Refresh("m \"7\";k \"ab\"", true)),
         Some(Refresh("m \"7\";k \"abc\"", true)),
         Refresh("m \"7\";k \"abc\"", true),
-        9,
+        0,
         "./. x/0/0./0/1x",
     ),
     // behind a refresh with no opener, and the other way round: the box costs 1, and within 3 for its tags, 6 and 2 for

@@ -9,6 +9,7 @@ use Rattle.tx_bridge.specs.Spares.{first_spare}
 use Rattle.tx_bridge.specs.Lent.{spares_in, IsSpareOf}
 use Rattle.tx_bridge.proofs.Lending.{charged, first_lent, lent_here}
 use Rattle.tx_bridge.proofs.Partway.{next, next_is, stops, agrees_next, units_next, sources_next, stays_next, any_err}
+use Rattle.tx_bridge.proofs.Partway.{ended}
 use Rattle.tx_bridge.proofs.bridges.refresh_all.Goals as goal
 
 pub refresh-requires-clause-settled : goal.refresh-requires-clause-settled
@@ -45,12 +46,12 @@ loop-i-preserved g c =
       parts = c.in_ok-charge.ensures.parts;
     })
     c.in_ok-charge.ensures.flags c.in_ok-charge.ensures.renewed c.in_ok-charge.ensures.behind
-    (charged (shells_by (g.O.Opener.opens c.args.opener.now)) c.loop-i.moment (entry_of b) (kept_parts b.parts)
+    (charged (shells_by (g.O.Opener.opens c.args.opener.now)) c.loop-i.moment (entry_of b) (kept_parts b.parts) b.layers
     (option_copied c.lent_at-other.result)
     (slice_get c.args.spare.now c.loop-i.i) (first_spare (drop c.loop-i.i (spares_in c.args.spare.now)))
     c.in_ok-charge.charge c.in_ok-charge.ensures.charge c.lent_at-other.ensures
     (first_lent c.args.spare.now c.loop-i.i))
-    c.in_ok-charge.ensures.counted c.in_ok-charge.ensures.most
+    c.in_ok-charge.ensures.layers c.in_ok-charge.ensures.counted c.in_ok-charge.ensures.most
     c.in_ok-charge.ensures.sound c.in_ok-charge.ensures.stays c.in_ok-charge.ensures.parts_same
     c.in_ok-charge.ensures.source
     c.in_ok-charge.ensures.settled
@@ -96,3 +97,9 @@ returns-in_err-charge-clause-refused g c =
     c.loop-i.still c.args.steps.now c.loop-i.steps c.loop-i.charges c.loop-i.invariant (omega arith)
     c.index-bridges-i.result c.refresh.new.self
     c.in_err-charge.ensures.unit c.in_err-charge.ensures.err)
+
+pub returns-clause-layers : goal.returns-clause-layers
+returns-clause-layers g c =
+    (ended (shells_by (g.O.Opener.opens c.args.opener.now)) c.args.bridges.now c.loop-i.bridges
+    (spares_in c.args.spare.now) c.args.start c.loop-i.i c.loop-i.moment c.loop-i.still c.args.steps.now
+    c.loop-i.steps c.loop-i.charges c.loop-i.invariant (omega arith)).5

@@ -9,11 +9,12 @@ use Rattle.tx_walk.specs.Walked.{paths_of}
 use Rattle.tx_bridge.specs.declared.moments.Evaluated.{Evaluated}
 use Rattle.tx_bridge.specs.HeldParts.{PartsHold, kept_parts, flags_of_parts}
 use Rattle.tx_bridge.specs.PartsKept.{fresh_parts_by, part_flags_by}
-use Rattle.tx_bridge.specs.Charges.{parts_charge_by}
+use Rattle.tx_bridge.specs.Charges.{parts_charge_by, LayersKnown}
 use Rattle.tx_bridge.specs.Lent.{spare_of}
 use Rattle.tx_bridge.proofs.PartsSame.{bare_parts, bare_fresh}
 use Rattle.tx_bridge.proofs.Marked.{bare_flags}
-use Rattle.tx_bridge.proofs.Lending.{spare_distinct, spare_parts_are, parts_charge, bare_charge}
+use Rattle.tx_bridge.proofs.Lending.{spare_distinct, spare_parts_are, spare_layers_are, parts_charge, bare_charge}
+use Rattle.tx_bridge.proofs.Lending.{bare_known}
 use Rattle.tx_bridge.proofs.bridge.Bridge.evaluated.Goals as goal
 
 pub by_parts-requires-clause-spare_distinct : goal.by_parts-requires-clause-spare_distinct
@@ -25,20 +26,34 @@ pub returns-then-has_parts-clause-charge : goal.returns-then-has_parts-clause-ch
 returns-then-has_parts-clause-charge g c =
     subst (λ n. IfOk c.by_parts.result (λ e. e.charge ≡ n))
     (ap (λ ps. parts_charge_by (shells_by (g.O.Opener.opens c.args.opener.now)) c.args.moment.now c.args.self.now.unit
-    (kept_parts ps) (kept_parts c.lent_parts-lent.result.now)) c.all-kept.ensures
+    (kept_parts ps) (kept_parts c.lent_parts-lent.result.now) c.all-layers.result.now
+    c.lent_layers-lent_layers.result.now) c.all-kept.ensures
+    ∙ ap (λ ls. parts_charge_by (shells_by (g.O.Opener.opens c.args.opener.now)) c.args.moment.now c.args.self.now.unit
+    (kept_parts c.args.self.now.parts) (kept_parts c.lent_parts-lent.result.now) ls
+    c.lent_layers-lent_layers.result.now) c.all-layers.ensures
     ∙ parts_charge (shells_by (g.O.Opener.opens c.args.opener.now)) c.args.moment.now c.args.self.now.unit
-    (kept_parts c.args.self.now.parts) (kept_parts c.lent_parts-lent.result.now)
-    (spare_of (option_copied c.args.spare)) (sym c.has_parts.ensures ∙ c.if-has_parts.true)
-    (ap kept_parts c.lent_parts-lent.ensures ∙ spare_parts_are (option_copied c.args.spare)))
+    (kept_parts c.args.self.now.parts) (kept_parts c.lent_parts-lent.result.now) c.args.self.now.layers
+    c.lent_layers-lent_layers.result.now (spare_of (option_copied c.args.spare))
+    (sym c.has_parts.ensures ∙ c.if-has_parts.true)
+    (ap kept_parts c.lent_parts-lent.ensures ∙ spare_parts_are (option_copied c.args.spare))
+    (c.lent_layers-lent_layers.ensures ∙ spare_layers_are (option_copied c.args.spare)))
     c.by_parts.ensures.charge
 
 pub returns-clause-charge : goal.returns-clause-charge
 returns-clause-charge g c =
     subst (λ n. IfOk c.evaluated_whole.result (λ e. e.charge ≡ n))
     (bare_charge (shells_by (g.O.Opener.opens c.args.opener.now)) c.args.moment.now c.args.self.now.unit
-    (kept_parts c.args.self.now.parts) (spare_of (option_copied c.args.spare))
+    (kept_parts c.args.self.now.parts) c.args.self.now.layers (spare_of (option_copied c.args.spare))
     (sym c.has_parts.ensures ∙ c.if-has_parts.false))
     c.evaluated_whole.ensures.charge
+
+pub returns-clause-layers : goal.returns-clause-layers
+returns-clause-layers g c =
+    IfOk-weaker c.evaluated_whole.result (λ e. e.parts ≡ [])
+    (λ e. LayersKnown (shells_by (g.O.Opener.opens c.args.opener.now)) c.args.moment.now c.args.self.now.unit e.layers)
+    (λ (e : Evaluated) none. bare_known (shells_by (g.O.Opener.opens c.args.opener.now)) c.args.moment.now
+    c.args.self.now.unit e.layers (sym c.has_parts.ensures ∙ c.if-has_parts.false))
+    c.evaluated_whole.ensures.parts
 
 pub returns-clause-hold : goal.returns-clause-hold
 returns-clause-hold g c =

@@ -9,10 +9,9 @@ use Rattle.tx_bridge.specs.HeldParts.{kept_parts}
 use Rattle.tx_bridge.specs.Lent.{spare_of}
 use Rattle.tx_bridge.specs.declared.bridge.Bridge.{Bridge}
 use Rattle.tx_bridge.proofs.ByParts.{spent_most}
-use Rattle.tx_bridge.proofs.Left.{off_is, left_parts, left_flags_by, left_renewed, left_charge}
+use Rattle.tx_bridge.proofs.Left.{off_is, left_parts, left_flags_by, left_renewed, left_charge, left_known}
 use Rattle.tx_bridge.proofs.Marked.{left_sound, unmarked_kept}
 use Rattle.tx_bridge.proofs.Used.{fits_is, charge_fits}
-use Rattle.tx_parts.specs.LayerCosts.{holds_nothing}
 use Rattle.tx_bridge.proofs.bridge.Bridge.refresh.Goals as goal
 
 pub returns-then-keeps_parts-clause-fresh : goal.returns-then-keeps_parts-clause-fresh
@@ -69,7 +68,18 @@ returns-then-keeps_parts-clause-charge g c =
     (off_is (has_parts c.args.self.now.unit && (c.args.shelled || c.args.self.now.shelled))
     (sym c.keeps_parts.ensures ∙ c.if-keeps_parts.true))
     c.trace_laws.ensures.agrees c.opened_fitting_law.ensures.all_traced c.opener_law.ensures.closed
-    c.opened_standing_law.ensures.distinct (c.opened_cost_law.ensures.nothing holds_nothing) (spare_of (option_copied c.args.spare))
+    c.opened_standing_law.ensures.distinct c.opened_cost_law.ensures.nothing
+    c.args.self.now.layers (spare_of (option_copied c.args.spare))
+
+pub returns-then-keeps_parts-clause-layers : goal.returns-then-keeps_parts-clause-layers
+returns-then-keeps_parts-clause-layers g c =
+    left_known c.args.moment.now c.args.self.now c.requires.sound
+    (shells_by (g.O.Opener.opens c.args.opener.now)) c.args.shelled
+    (λ off. ap shells_by (c.requires.shut off) ∙ c.opener_law.ensures.nothing_opened)
+    (sym c.fits-used.ensures ∙ c.if-used.true)
+    (off_is (has_parts c.args.self.now.unit && (c.args.shelled || c.args.self.now.shelled))
+    (sym c.keeps_parts.ensures ∙ c.if-keeps_parts.true))
+    c.opened_cost_law.ensures.nothing c.leave.new.self.layers
 
 pub returns-then-keeps_parts-clause-sound : goal.returns-then-keeps_parts-clause-sound
 returns-then-keeps_parts-clause-sound g c = left_sound c.args.self.now c.leave.new.self c.requires.sound c.leave.ensures
@@ -89,7 +99,8 @@ returns-then-silent-clause-most g c =
     spent_most (shells_by (g.O.Opener.opens c.args.opener.now))
     (c.opener_law.ensures.sheller (g.O.Opener.opens c.args.opener.now) (g.met.O.Opener.sound c.args.opener.now))
     c.trace_laws.ensures.allowed c.args.moment.now c.go_behind-2.new.self
-    c.args.self.now.unit (kept_parts c.args.self.now.parts) (spare_of (option_copied c.args.spare))
+    c.args.self.now.unit (kept_parts c.args.self.now.parts) c.args.self.now.layers
+    (spare_of (option_copied c.args.spare))
     c.in_ok-charge.charge c.requires.sound.placed
     c.in_ok-charge.ensures.charge
     (c.in_ok-go_behind-2.ensures.behind
@@ -101,7 +112,8 @@ returns-else-silent-clause-most g c =
     spent_most (shells_by (g.O.Opener.opens c.args.opener.now))
     (c.opener_law.ensures.sheller (g.O.Opener.opens c.args.opener.now) (g.met.O.Opener.sound c.args.opener.now))
     c.trace_laws.ensures.allowed c.args.moment.now c.go_behind-2.new.self
-    c.args.self.now.unit (kept_parts c.args.self.now.parts) (spare_of (option_copied c.args.spare))
+    c.args.self.now.unit (kept_parts c.args.self.now.parts) c.args.self.now.layers
+    (spare_of (option_copied c.args.spare))
     c.in_ok-charge.charge c.requires.sound.placed
     c.in_ok-charge.ensures.charge
     (c.in_ok-go_behind-2.ensures.behind

@@ -4,6 +4,7 @@ use Rattle.tx_bridge.specs.Names.{Carry, Sources}
 use Rattle.tx_bridge.specs.UnitLists.{AreUnits}
 use Rattle.tx_bridge.proofs.Received.{coming, coming_bare, course_places, received_sound, received_parts}
 use Rattle.tx_bridge.proofs.Received.{received_strays, received_tidy, received_kept, received_stand}
+use Rattle.tx_bridge.proofs.Received.{received_layers}
 use Rattle.tx_bridge.proofs.Received.{behind_document, behind_other}
 use Rattle.tx_bridge.proofs.Taking.{given_to_is}
 use Rattle.tx_bridge.proofs.TreesSame.{carry_trees}
@@ -69,6 +70,16 @@ returns-clause-parts c =
     received_parts c.args.buffer c.args.mods.now c.args.before.now c.args.self.now.kept c.args.self.now.parts
     c.args.self.now.strays c.args.units.items c.self.inside.bridges.items c.give_over.new.bridges.items c.args.course
     (ap (λ b. b.parts) c.self.view_is) c.requires.course
+    (c.in_ok-give_over.ensures.given (mods_of c.args.buffer c.args.mods.now) c.args.before.now
+    (course_places (mods_of c.args.buffer c.args.mods.now) c.args.before.now c.args.self.now.kept
+    c.self.inside.bridges.items c.args.course.places.items (ap (λ b. b.kept) c.self.view_is)
+    c.requires.course.places))
+
+pub returns-clause-layers : goal.returns-clause-layers
+returns-clause-layers c =
+    received_layers c.args.course.moves.items (mods_of c.args.buffer c.args.mods.now) c.args.before.now
+    c.args.self.now.layers c.args.units.items c.self.inside.bridges.items c.give_over.new.bridges.items
+    (ap (λ b. b.layers) c.self.view_is)
     (c.in_ok-give_over.ensures.given (mods_of c.args.buffer c.args.mods.now) c.args.before.now
     (course_places (mods_of c.args.buffer c.args.mods.now) c.args.before.now c.args.self.now.kept
     c.self.inside.bridges.items c.args.course.places.items (ap (λ b. b.kept) c.self.view_is)

@@ -5,10 +5,10 @@ use Rattle.tx_units.specs.Units.{units_with}
 use Rattle.tx_bridge.specs.Entries.{units_of}
 use Rattle.tx_bridge.specs.Names.{Carry, CarryWithin, Sources, StraysBeside}
 use Rattle.tx_bridge.specs.Others.{put_from, parts_of}
-use Rattle.tx_bridge.specs.Sound.{entries_of, parts_in}
+use Rattle.tx_bridge.specs.Sound.{entries_of, parts_in, layers_in}
 use Rattle.tx_bridge.specs.Strays.{AreStrays, AreTidy, StandAside, is_beside, strays_in}
 use Rattle.tx_bridge.proofs.Aside.{strays_seen, are_beside, beside_seen, tidy_beside, stay_beside, stand_beside}
-use Rattle.tx_bridge.proofs.Changing.{in_place, is_within, changed_right}
+use Rattle.tx_bridge.proofs.Changing.{in_place, is_within, changed_right, layers_changed}
 use Rattle.tx_bridge.proofs.ChangedParts.{moved_hold, parts_moved, now_is}
 use Rattle.tx_bridge.proofs.bridges.Bridges.carry_in_place.Goals as goal
 use Rattle.tx_bridge.proofs.bridges.Bridges.carry_in_place.Goals.{then-self, else-self}
@@ -97,6 +97,18 @@ returns-clause-parts c =
     ∙ parts_moved c.args.changed c.args.mods.now c.args.before.now c.args.moved.items c.self.inside.bridges.items
     c.args.self.now.kept c.args.self.now.parts (ap (λ b. b.kept) c.self.view_is) (ap (λ b. b.parts) c.self.view_is)
     c.requires.moved c.args.tree
+
+pub returns-clause-layers : goal.returns-clause-layers
+returns-clause-layers c =
+    let whole : take c.self.inside.bridges.len (c.change_one-silent.new.bridges
+    ++ drop (length c.change_one-silent.new.bridges) c.self.inside.bridges.items) ≡ c.change_one-silent.new.bridges =
+    grind (arith, common_steps) in
+    let now = whole ∙ now_is c.args.changed c.args.tree c.args.moved.items c.self.inside.bridges.items _
+    c.change_one-silent.new.bridges c.deref_mut.ensures.value c.change_one-silent.ensures.changed in
+    ap layers_in now
+    ∙ layers_changed c.args.changed c.args.tree
+    (put_from 0 c.args.moved.items (parts_of c.args.changed c.self.inside.bridges.items)) c.self.inside.bridges.items
+    ∙ ap (λ b. b.layers) c.self.view_is
 
 pub returns-clause-sources : goal.returns-clause-sources
 unfolding Sources

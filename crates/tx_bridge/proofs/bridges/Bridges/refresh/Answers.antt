@@ -6,7 +6,6 @@ use Rattle.tx_bridge.specs.Reached.{reached_from}
 use Rattle.tx_bridge.specs.Names.{Fresh, FreshParts, PartFlags, Charge}
 use Rattle.tx_bridge.specs.Names.{FreshFrom, FreshPartsFrom, PartFlagsFrom, ChargeFrom}
 use Rattle.tx_bridge.proofs.Spared.{nothing_charged}
-use Rattle.tx_parts.specs.LayerCosts.{holds_nothing}
 use Rattle.tx_bridge.proofs.bridges.Bridges.refresh.Goals as goal
 
 pub returns-clause-fresh : goal.returns-clause-fresh
@@ -40,7 +39,7 @@ returns-clause-charge g c =
     subst (λ k. IfOk c.refresh_from.result (λ n. n ≡ k))
     (ap (λ ps. ChargeFrom ps c.args.self.now.kept c.args.self.now.parts [])
     (c.new-none.ensures ∙ c.new.ensures.items)
-    ∙ nothing_charged (c.opened_cost_law.ensures.nothing holds_nothing) beginning c.args.self.now.kept c.args.self.now.parts)
+    ∙ nothing_charged c.opened_cost_law.ensures.nothing beginning c.args.self.now.kept c.args.self.now.parts)
     c.refresh_from.ensures.charge
 
 pub returns-clause-refused : goal.returns-clause-refused

@@ -5,15 +5,15 @@ use Rattle.std.specs.List.{All}
 use Rattle.tx_bridge.specs.Bridged.{Bridged}
 use Rattle.tx_bridge.specs.Moments.{beginning_with}
 use Rattle.tx_parts.specs.Opening.{shells_by}
-use Rattle.tx_bridge.specs.Names.{FreshFrom, FreshPartsBy, PartFlagsBy, ChargeBy}
-use Rattle.tx_bridge.specs.Charges.{charges_by}
+use Rattle.tx_bridge.specs.Names.{FreshFrom, FreshPartsBy, PartFlagsBy, ChargeBy, KnowsLayers}
+use Rattle.tx_bridge.specs.Charges.{charges_by, AllLayersKnown}
 use Rattle.tx_bridge.specs.Reached.{reached_by_from}
 use Rattle.tx_bridge.specs.Lent.{spares_in}
 use Rattle.tx_bridge.specs.Entries.{units_of}
 use Rattle.tx_bridge.specs.UnitLists.{AreUnits}
 use Rattle.tx_bridge.specs.PartsKept.{part_flags_by_from}
 use Rattle.tx_bridge.specs.HeldParts.{kept_parts}
-use Rattle.tx_bridge.specs.Sound.{IsSound, entry_of, entries_of, parts_in, part_flags_in, flags_of}
+use Rattle.tx_bridge.specs.Sound.{IsSound, entry_of, entries_of, parts_in, part_flags_in, layers_in, flags_of}
 use Rattle.tx_bridge.specs.Strays.{AreStrays, strays_in}
 use Rattle.tx_bridge.proofs.Aside.{none_aside, none_tidy}
 use Rattle.tx_bridge.proofs.Lending.{have_units}
@@ -59,9 +59,10 @@ returns-in_err-charges-clause-refused g c =
     any_err c.from_residual-in_err-charges.result
     (refused (shells_by (g.O.Opener.opens c.args.opener.now))
     c.in_ok-moment.moment (beginning_with c.args.start.now) c.deref_mut.result.now c.refresh_all.new.bridges _
-    c.args.self.now.kept c.args.self.now.parts c.in_ok-moment.ensures whole
+    c.args.self.now.kept c.args.self.now.parts c.args.self.now.layers c.in_ok-moment.ensures whole
     (ap entries_of c.deref_mut.ensures.value ∙ ap (λ b. b.kept) c.self.view_is)
-    (ap parts_in c.deref_mut.ensures.value ∙ ap (λ b. b.parts) c.self.view_is) c.in_err-charges.ensures.refused)
+    (ap parts_in c.deref_mut.ensures.value ∙ ap (λ b. b.parts) c.self.view_is)
+    (ap layers_in c.deref_mut.ensures.value ∙ ap (λ b. b.layers) c.self.view_is) c.in_err-charges.ensures.refused)
 
 pub returns-in_err-charges-clause-stays : goal.returns-in_err-charges-clause-stays
 returns-in_err-charges-clause-stays g c =
@@ -144,19 +145,38 @@ unfolding ChargeBy
 returns-clause-charge g c =
     c.in_ok-charges.ensures.charge
     ∙ ap (λ m. charges_by (shells_by (g.O.Opener.opens c.args.opener.now)) m (entries_of c.deref_mut.result.now)
-    (parts_in c.deref_mut.result.now)
+    (parts_in c.deref_mut.result.now) (layers_in c.deref_mut.result.now)
     (spares_in c.lent_bridges-lent.result.now)) c.in_ok-moment.ensures
     ∙ ap (λ es. charges_by (shells_by (g.O.Opener.opens c.args.opener.now)) (beginning_with c.args.start.now) es
-    (parts_in c.deref_mut.result.now)
+    (parts_in c.deref_mut.result.now) (layers_in c.deref_mut.result.now)
     (spares_in c.lent_bridges-lent.result.now))
     (ap entries_of c.deref_mut.ensures.value ∙ ap (λ b. b.kept) c.self.view_is)
     ∙ ap (λ pss. charges_by (shells_by (g.O.Opener.opens c.args.opener.now))
-    (beginning_with c.args.start.now) c.args.self.now.kept pss
+    (beginning_with c.args.start.now) c.args.self.now.kept pss (layers_in c.deref_mut.result.now)
     (spares_in c.lent_bridges-lent.result.now))
     (ap parts_in c.deref_mut.ensures.value ∙ ap (λ b. b.parts) c.self.view_is)
+    ∙ ap (λ lss. charges_by (shells_by (g.O.Opener.opens c.args.opener.now))
+    (beginning_with c.args.start.now) c.args.self.now.kept c.args.self.now.parts lss
+    (spares_in c.lent_bridges-lent.result.now))
+    (ap layers_in c.deref_mut.ensures.value ∙ ap (λ b. b.layers) c.self.view_is)
     ∙ ap (charges_by (shells_by (g.O.Opener.opens c.args.opener.now)) (beginning_with c.args.start.now)
-    c.args.self.now.kept c.args.self.now.parts)
+    c.args.self.now.kept c.args.self.now.parts c.args.self.now.layers)
     c.lent_bridges-lent.ensures.spares
+
+pub returns-clause-layers : goal.returns-clause-layers
+unfolding KnowsLayers
+returns-clause-layers g c =
+    let whole : take c.self.inside.bridges.len (c.refresh_all.new.bridges
+    ++ drop (length c.refresh_all.new.bridges) c.self.inside.bridges.items) ≡ c.refresh_all.new.bridges =
+    grind (arith, common_steps) in
+    subst (AllLayersKnown (shells_by (g.O.Opener.opens c.args.opener.now)) (beginning_with c.args.start.now)
+    (units_of c.args.self.now.kept)) (sym (ap layers_in whole))
+    (subst (λ m. AllLayersKnown (shells_by (g.O.Opener.opens c.args.opener.now)) m (units_of c.args.self.now.kept)
+    (layers_in c.refresh_all.new.bridges)) c.in_ok-moment.ensures
+    (subst (λ us. AllLayersKnown (shells_by (g.O.Opener.opens c.args.opener.now)) c.in_ok-moment.moment us
+    (layers_in c.refresh_all.new.bridges))
+    (ap (λ bs. units_of (entries_of bs)) c.deref_mut.ensures.value ∙ ap (λ b. units_of b.kept) c.self.view_is)
+    c.in_ok-charges.ensures.layers))
 
 pub returns-clause-renewed : goal.returns-clause-renewed
 returns-clause-renewed g c =

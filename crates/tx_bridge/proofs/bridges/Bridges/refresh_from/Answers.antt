@@ -1,10 +1,12 @@
-use Rattle.std.proofs.Common.{◌≡◌, ◌++◌, ℕ, subst, take, drop}
+use Rattle.std.proofs.Common.{◌≡◌, ◌++◌, ◌∙◌, ℕ, ap, subst, take, drop}
 use Rattle.std.specs.Prelude.{IfOk, OnOk, OnErr, option_copied}
 use Rattle.tx_bridge.specs.Moments.{beginning_with}
 use Rattle.tx_bridge.specs.Reached.{reached_by_from}
 use Rattle.tx_bridge.specs.Spares.{spares_of}
 use Rattle.tx_bridge.specs.Names.{FreshFrom, FreshPartsFrom, PartFlagsFrom, ChargeFrom}
 use Rattle.tx_bridge.specs.Names.{FreshPartsBy, PartFlagsBy, ChargeBy}
+use Rattle.tx_bridge.proofs.Partway.{OnErr-weaker}
+use Rattle.tx_bridge.proofs.Spared.{layers_unseen}
 use Rattle.tx_bridge.proofs.bridges.Bridges.refresh_from.Goals as goal
 
 pub returns-clause-parts : goal.returns-clause-parts
@@ -30,15 +32,20 @@ returns-clause-renewed g c =
 pub returns-clause-charge : goal.returns-clause-charge
 unfolding ChargeFrom ChargeBy
 returns-clause-charge g c =
-    subst (λ s. IfOk c.refresh_by.result (λ n. n ≡ ChargeBy c.args.start.now s c.args.self.now.kept
-    c.args.self.now.parts (spares_of (option_copied c.args.spare))))
-    c.opener_law.ensures.nothing_opened c.refresh_by.ensures.charge
+    subst (λ k. IfOk c.refresh_by.result (λ n. n ≡ k))
+    (ap (λ s. ChargeBy c.args.start.now s c.args.self.now.kept c.args.self.now.parts c.args.self.now.layers
+    (spares_of (option_copied c.args.spare))) c.opener_law.ensures.nothing_opened
+    ∙ layers_unseen c.opened_cost_law.ensures.nothing (beginning_with c.args.start.now) c.args.self.now.kept
+    c.args.self.now.parts c.args.self.now.layers (spares_of (option_copied c.args.spare)))
+    c.refresh_by.ensures.charge
 
 pub returns-clause-refused : goal.returns-clause-refused
 unfolding FreshPartsFrom FreshPartsBy
 returns-clause-refused g c =
-    subst (λ s. OnErr c.refresh_by.result ((n : ℕ) × (c.refresh_by.new.self.kept
+    OnErr-weaker c.refresh_by.result (λ r. (r.0, r.1, r.2))
+    (subst (λ s. OnErr c.refresh_by.result ((n : ℕ) × (c.refresh_by.new.self.kept
     ≡ take n (FreshFrom c.args.start.now c.args.self.now.kept) ++ drop n c.args.self.now.kept)
     × (c.refresh_by.new.self.parts
-    ≡ take n (FreshPartsBy c.args.start.now s c.args.self.now.kept) ++ drop n c.args.self.now.parts)))
-    c.opener_law.ensures.nothing_opened c.refresh_by.ensures.refused
+    ≡ take n (FreshPartsBy c.args.start.now s c.args.self.now.kept) ++ drop n c.args.self.now.parts)
+    × (drop n c.refresh_by.new.self.layers ≡ drop n c.args.self.now.layers)))
+    c.opener_law.ensures.nothing_opened c.refresh_by.ensures.refused)
