@@ -28,7 +28,9 @@ impl UnitLayers {
     pub(crate) fn none(alloc: Global) -> UnitLayers
         ensures { result ≡ [] }
     {
-        UnitLayers { all: Vec::new(alloc) }
+        UnitLayers {
+            all: Vec::new(alloc),
+        }
     }
 
     /// These.
