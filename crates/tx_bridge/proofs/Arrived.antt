@@ -17,17 +17,18 @@ use Rattle.tx_exec.specs.Outcomes.{wide_outcome, wide_trace}
 use Rattle.tx_units.specs.declared.kinds.Unit.{Unit as DocUnit}
 use Rattle.tx_bridge.specs.declared.bridge.Bridge.{Bridge}
 use Rattle.tx_walk.specs.SameTrees.{is_same}
-use Rattle.tx_bridge.specs.UnitLists.{IsPlaced}
+use Rattle.tx_bridge.specs.UnitLists.{HasPathIfBody}
 use Rattle.tx_units.specs.Places.{NoneBegins}
 use Rattle.tx_units.specs.Places.{AreApart as PathsApart}
 use Rattle.tx_bridge.specs.Entries.{Entry, Kept, units_of, nothing_kept}
-use Rattle.tx_bridge.specs.Sound.{IsSound, Holds, AllHold, entry_of, entries_of, parts_in, sources_in}
+use Rattle.tx_bridge.specs.Sound.{IsSoundBridge, TraceHolds, AllHold, kept_unit, entries_of, stored_parts_in}
+use Rattle.tx_bridge.specs.Sound.{sources_in}
 use Rattle.tx_bridge.specs.PartsKept.{KeptParts}
 use Rattle.tx_bridge.specs.HeldParts.{HoldsPart, StoredHolds, AllPartsHold, kept_parts}
 use Rattle.tx_walk.specs.declared.part.Part.{Part as DonePart}
 use Rattle.tx_bridge.specs.Carrying.{is_path, same_kind, same_unit, through, mods_of, Leads, AllLead, Stands}
 use Rattle.tx_bridge.specs.Carrying.{AllStand, AreSameBodies}
-use Rattle.tx_bridge.specs.Slots.{AreApart, AreMoved, AllPlaced, stays, given_from, given_all}
+use Rattle.tx_bridge.specs.Slots.{HaveOwnPaths, AreMoved, AllPlaced, stays, given_from, given_all}
 use Rattle.tx_bridge.specs.Slots.{fresh_bridge, paths_in, bodies_of}
 use Rattle.tx_bridge.proofs.PartsSame.{no_parts, parts_same}
 use Rattle.tx_walk.proofs.Trees.{both, same_is}
@@ -90,7 +91,8 @@ roots (Some p) (Some q) e = refl
 tagged_at : WideTree → Option (List ℕ) → TaggedTree
 tagged_at t at = record { tree = t; at = at }
 
-tagged_is : (u v : DocUnit) → IsPlaced u → IsPlaced v → u.tagged.tree ≡ v.tagged.tree → is_some u.path ≡ is_some v.path
+tagged_is : (u v : DocUnit) → HasPathIfBody u → HasPathIfBody v → u.tagged.tree ≡ v.tagged.tree
+    → is_some u.path ≡ is_some v.path
     → tagged_of u.tagged ≡ tagged_of v.tagged
 unfolding tagged_at
 tagged_is u v placed there trees paths =
@@ -105,7 +107,7 @@ pub some_path : (place o : Option (List ℕ)) (p : List ℕ) → (o ≡ None →
 some_path place None p h e = let off : Some p ≡ None = sym e ∙ h refl in cc
 some_path place (Some q) p h e = refl
 
-stays_tagged : (place : Option (List ℕ)) (i : ℕ) (u : DocUnit) (j : ℕ) (v : DocUnit) → IsPlaced u → IsPlaced v
+stays_tagged : (place : Option (List ℕ)) (i : ℕ) (u : DocUnit) (j : ℕ) (v : DocUnit) → HasPathIfBody u → HasPathIfBody v
     → (u.path ≡ None → place ≡ None) → SameAt place u v → (o : Option (List ℕ)) → v.path ≡ o
     → option_map_or (λ p. is_path p place) o (i == j && same_unit u v) ≡ true
     → tagged_of u.tagged ≡ tagged_of v.tagged
@@ -122,9 +124,9 @@ stays_tagged place i u j v placed there moved same None e h =
 -- ---- giving keeps what is true of what is kept
 
 one_sound : (s : Bool) (i : ℕ) (b w : Bridge) → (s ≡ true → tagged_of b.unit.tagged ≡ tagged_of w.unit.tagged)
-    → IsSound b → IsSound w → IsSound (if s then with_given i b w else w)
+    → IsSoundBridge b → IsSoundBridge w → IsSoundBridge (if s then with_given i b w else w)
 one_sound true i b w same sound_b sound_w = record {
-  holds = subst (Holds (wide_outcome b.kept)) (same refl) sound_b.holds;
+  holds = subst (TraceHolds (wide_outcome b.kept)) (same refl) sound_b.holds;
   once = sound_b.once;
   placed = sound_w.placed;
   parts =
@@ -144,9 +146,9 @@ units_given place i b o (w ∷ ws) =
     ap (λ x. x ∷ bodies_of (given_from place i b (o + 1) ws)) (one_unit (stays place i b.unit o w.unit) i b w)
     ∙ ap (λ us. w.unit ∷ us) (units_given place i b (o + 1) ws)
 
-given_sound : (place : Option (List ℕ)) (i : ℕ) (b : Bridge) (o : ℕ) (ws : List Bridge) → IsSound b
+given_sound : (place : Option (List ℕ)) (i : ℕ) (b : Bridge) (o : ℕ) (ws : List Bridge) → IsSoundBridge b
     → (b.unit.path ≡ None → place ≡ None) → AllByRecursion (SameAt place b.unit) (bodies_of ws)
-    → AllByRecursion IsSound ws → AllByRecursion IsSound (given_from place i b o ws)
+    → AllByRecursion IsSoundBridge ws → AllByRecursion IsSoundBridge (given_from place i b o ws)
 given_sound place i b o [] sound moved same h = tt
 given_sound place i b o (w ∷ ws) sound moved same h = (
   one_sound (stays place i b.unit o w.unit) i b w
@@ -164,7 +166,8 @@ AllMatch (place ∷ places) [] us = Unit {0}
 AllMatch (place ∷ places) (b ∷ bs) us = Matches place b us × AllMatch places bs us
 
 all_given_sound : (i : ℕ) (places : List (Option (List ℕ))) (bs new : List Bridge) → AllMatch places bs (bodies_of new)
-    → AllByRecursion IsSound bs → AllByRecursion IsSound new → AllByRecursion IsSound (given_all i places bs new)
+    → AllByRecursion IsSoundBridge bs → AllByRecursion IsSoundBridge new
+    → AllByRecursion IsSoundBridge (given_all i places bs new)
 all_given_sound i [] bs new match sound h = h
 all_given_sound i (place ∷ places) [] new match sound h = h
 all_given_sound i (place ∷ places) (b ∷ bs) new match sound h =
@@ -213,7 +216,7 @@ fresh_units : (us : List DocUnit) → bodies_of (map fresh_bridge us) ≡ us
 fresh_units [] = refl
 fresh_units (u ∷ us) = ap (λ vs. u ∷ vs) (fresh_units us)
 
-fresh_sound : (us : List DocUnit) → AllByRecursion IsPlaced us → AllByRecursion IsSound (map fresh_bridge us)
+fresh_sound : (us : List DocUnit) → AllByRecursion HasPathIfBody us → AllByRecursion IsSoundBridge (map fresh_bridge us)
 fresh_sound [] h = tt
 fresh_sound (u ∷ us) h = (record { holds = tt; once = tt; placed = h.0; parts = no_parts false u }, fresh_sound us h.1)
 
@@ -225,22 +228,24 @@ all_given_units i (place ∷ places) (b ∷ bs) new =
     all_given_units (i + 1) places bs (given_from place i b 0 new) ∙ units_given place i b 0 new
 
 -- nothing kept is sound
-pub start_sound : (us : List DocUnit) → AllByRecursion IsPlaced us → All IsSound (map fresh_bridge us)
-start_sound us h = All-from_recursion IsSound (map fresh_bridge us) (fresh_sound us h)
+pub start_sound : (us : List DocUnit) → AllByRecursion HasPathIfBody us → All IsSoundBridge (map fresh_bridge us)
+start_sound us h = All-from_recursion IsSoundBridge (map fresh_bridge us) (fresh_sound us h)
 
 sound_by : (places : List (Option (List ℕ))) (old new : List Bridge) (us : List DocUnit) → bodies_of new ≡ us
-    → All IsSound new → AllMatch places old us → All IsSound old → All IsSound (given_all 0 places old new)
+    → All IsSoundBridge new → AllMatch places old us → All IsSoundBridge old
+    → All IsSoundBridge (given_all 0 places old new)
 sound_by places old new us are fresh match sound =
-    All-from_recursion IsSound (given_all 0 places old new)
+    All-from_recursion IsSoundBridge (given_all 0 places old new)
     (all_given_sound 0 places old new (subst (AllMatch places old) (sym are) match)
-    (recursion_from_All IsSound old sound) (recursion_from_All IsSound new fresh))
+    (recursion_from_All IsSoundBridge old sound) (recursion_from_All IsSoundBridge new fresh))
 
 pub carried_sound : (buffer : ℕ) (ms : List Mod) (t : WideTree) (old new : List Bridge) (us : List DocUnit)
-    → ((u : WideTree) × (changed_by_all ms t ≡ Some u)) → ((q : List ℕ) → CarriesThroughAll ms t q) → All IsSound old
-    → bodies_of new ≡ us → All IsSound new → (buffer ≡ 0 → AllStand t (bodies_of old))
+    → ((u : WideTree) × (changed_by_all ms t ≡ Some u)) → ((q : List ℕ) → CarriesThroughAll ms t q)
+    → All IsSoundBridge old
+    → bodies_of new ≡ us → All IsSoundBridge new → (buffer ≡ 0 → AllStand t (bodies_of old))
     → (buffer ≡ 0 → (u : WideTree) → changed_by_all ms t ≡ Some u → AllStand u us)
     → ((buffer ≡ 0 → ⊥) → AreSameBodies (bodies_of old) us)
-    → All IsSound (given_all 0 (map (through (mods_of buffer ms) t) (paths_in old)) old new)
+    → All IsSoundBridge (given_all 0 (map (through (mods_of buffer ms) t) (paths_in old)) old new)
 carried_sound zero ms t old new us made law sound are fresh stand_old stand_new same =
     sound_by (map (through ms t) (paths_in old)) old new us are fresh
     (match_document ms t made.0 old us made.1 law (stand_old refl) (stand_new refl made.0 made.1)) sound
@@ -282,7 +287,7 @@ apart_at o (u ∷ us) (suc k) w h e = apart_at o us k w h.1 e
 one_path : (o r : Option (List ℕ)) (p : List ℕ) → PathsApart o r → o ≡ Some p → r ≡ Some p → ⊥
 one_path o r p h e f = (h p []).0 e (f ∙ ap Some (sym (append-nil p)))
 
-pub fresh_apart : (us : List DocUnit) → NoneBegins us → AreApart (map fresh_bridge us)
+pub fresh_apart : (us : List DocUnit) → NoneBegins us → HaveOwnPaths (map fresh_bridge us)
 fresh_apart [] h j k v w p e f is_v is_w = cc
 fresh_apart (u ∷ us) h zero zero v w p e f is_v is_w = refl
 fresh_apart (u ∷ us) h zero (suc k) v w p e f is_v is_w =
@@ -295,20 +300,20 @@ fresh_apart (u ∷ us) h (suc j) zero v w p e f is_v is_w =
     (ap (λ (b : Bridge). b.unit.path) same ∙ is_w) is_v)
 fresh_apart (u ∷ us) h (suc j) (suc k) v w p e f is_v is_w = ap suc (fresh_apart us h.1 j k v w p e f is_v is_w)
 
-pub fresh_placed : (us : List DocUnit) → AllByRecursion IsPlaced us → AllPlaced (map fresh_bridge us)
+pub fresh_placed : (us : List DocUnit) → AllByRecursion HasPathIfBody us → AllPlaced (map fresh_bridge us)
 fresh_placed [] h k b e = cc
 fresh_placed (u ∷ us) h zero b e =
-    let same : fresh_bridge u ≡ b = cc in subst (λ (x : Bridge). IsPlaced x.unit) same h.0
+    let same : fresh_bridge u ≡ b = cc in subst (λ (x : Bridge). HasPathIfBody x.unit) same h.0
 fresh_placed (u ∷ us) h (suc k) b e = fresh_placed us h.1 k b e
 
-placed_each : (bs : List Bridge) → AllByRecursion IsSound bs → AllPlaced bs
+placed_each : (bs : List Bridge) → AllByRecursion IsSoundBridge bs → AllPlaced bs
 placed_each [] h k b e = cc
 placed_each (x ∷ bs) h zero b e =
-    let same : x ≡ b = cc in subst (λ (y : Bridge). IsPlaced y.unit) same h.0.placed
+    let same : x ≡ b = cc in subst (λ (y : Bridge). HasPathIfBody y.unit) same h.0.placed
 placed_each (x ∷ bs) h (suc k) b e = placed_each bs h.1 k b e
 
-pub sound_placed : (bs : List Bridge) → All IsSound bs → AllPlaced bs
-sound_placed bs h = placed_each bs (recursion_from_All IsSound bs h)
+pub sound_placed : (bs : List Bridge) → All IsSoundBridge bs → AllPlaced bs
+sound_placed bs h = placed_each bs (recursion_from_All IsSoundBridge bs h)
 
 pub units_bodies : (bs : List Bridge) → units_of (entries_of bs) ≡ bodies_of bs
 units_bodies [] = refl
@@ -320,7 +325,7 @@ start_entries : (us : List DocUnit) → entries_of (map fresh_bridge us) ≡ not
 start_entries [] = refl
 start_entries (u ∷ us) = ap (λ es. record { unit = u; trace = None } ∷ es) (start_entries us)
 
-start_parts : (us : List DocUnit) → parts_in (map fresh_bridge us) ≡ map (λ u. []) us
+start_parts : (us : List DocUnit) → stored_parts_in (map fresh_bridge us) ≡ map (λ u. []) us
 start_parts [] = refl
 start_parts (u ∷ us) = ap (λ ks. [] ∷ ks) (start_parts us)
 
@@ -328,27 +333,27 @@ start_sources : (us : List DocUnit) → sources_in (map fresh_bridge us) ≡ map
 start_sources [] = refl
 start_sources (u ∷ us) = ap (λ ss. None ∷ ss) (start_sources us)
 
-pub started : (bs : List Bridge) (us : List DocUnit) → bs ≡ map fresh_bridge us → AllByRecursion IsPlaced us
-    → (All IsSound bs) × (entries_of bs ≡ nothing_kept us) × (units_of (entries_of bs) ≡ us)
-    × (sources_in bs ≡ map (λ u. None) us) × (parts_in bs ≡ map (λ u. []) us)
+pub started : (bs : List Bridge) (us : List DocUnit) → bs ≡ map fresh_bridge us → AllByRecursion HasPathIfBody us
+    → (All IsSoundBridge bs) × (entries_of bs ≡ nothing_kept us) × (units_of (entries_of bs) ≡ us)
+    × (sources_in bs ≡ map (λ u. None) us) × (stored_parts_in bs ≡ map (λ u. []) us)
 started bs us is placed = (
-  subst (All IsSound) (sym is) (start_sound us placed),
+  subst (All IsSoundBridge) (sym is) (start_sound us placed),
   ap entries_of is ∙ start_entries us,
   ap (λ cs. units_of (entries_of cs)) is ∙ units_bodies (map fresh_bridge us) ∙ fresh_units us,
   ap sources_in is ∙ start_sources us,
-  ap parts_in is ∙ start_parts us,
+  ap stored_parts_in is ∙ start_parts us,
 )
 
-holds_each : (bs : List Bridge) → AllByRecursion IsSound bs
-    → AllByRecursion (λ (e : Entry). Holds e.trace (tagged_of e.unit.tagged)) (entries_of bs)
+holds_each : (bs : List Bridge) → AllByRecursion IsSoundBridge bs
+    → AllByRecursion (λ (e : Entry). TraceHolds e.trace (tagged_of e.unit.tagged)) (entries_of bs)
 holds_each [] h = tt
 holds_each (b ∷ bs) h = (h.0.holds, holds_each bs h.1)
 
-pub hold_all : (bs : List Bridge) (kept : Kept) → entries_of bs ≡ kept → All IsSound bs → AllHold kept
+pub hold_all : (bs : List Bridge) (kept : Kept) → entries_of bs ≡ kept → All IsSoundBridge bs → AllHold kept
 hold_all bs kept is sound =
     subst AllHold is
-    (All-from_recursion (λ (e : Entry). Holds e.trace (tagged_of e.unit.tagged)) (entries_of bs)
-    (holds_each bs (recursion_from_All IsSound bs sound)))
+    (All-from_recursion (λ (e : Entry). TraceHolds e.trace (tagged_of e.unit.tagged)) (entries_of bs)
+    (holds_each bs (recursion_from_All IsSoundBridge bs sound)))
 
 stored_hold : (t : WideTree) (ps : List DonePart) → AllByRecursion (HoldsPart t) ps
     → AllByRecursion (StoredHolds t) (kept_parts ps)
@@ -364,7 +369,8 @@ stored_hold t (p ∷ ps) h = (
   stored_hold t ps h.1,
 )
 
-parts_hold_each : (bs : List Bridge) → AllByRecursion IsSound bs → AllPartsHold (entries_of bs) (parts_in bs)
+parts_hold_each : (bs : List Bridge) → AllByRecursion IsSoundBridge bs
+    → AllPartsHold (entries_of bs) (stored_parts_in bs)
 parts_hold_each [] h = tt
 parts_hold_each (b ∷ bs) h = (
   record {
@@ -375,13 +381,14 @@ parts_hold_each (b ∷ bs) h = (
 )
 
 pub parts_hold_all : (bs : List Bridge) (kept : Kept) (pss : List KeptParts) → entries_of bs ≡ kept
-    → parts_in bs ≡ pss → All IsSound bs → AllPartsHold kept pss
+    → stored_parts_in bs ≡ pss → All IsSoundBridge bs → AllPartsHold kept pss
 parts_hold_all bs kept pss is has sound =
     subst (AllPartsHold kept) has
-    (subst (λ es. AllPartsHold es (parts_in bs)) is (parts_hold_each bs (recursion_from_All IsSound bs sound)))
+    (subst (λ es. AllPartsHold es (stored_parts_in bs)) is (parts_hold_each bs (recursion_from_All IsSoundBridge bs
+    sound)))
 
 -- the entry of a number
 pub entry_at : (bs : List Bridge) (kept : Kept) (i : ℕ) (b : Bridge) → entries_of bs ≡ kept → slice_get bs i ≡ Some b
-    → slice_get kept i ≡ Some (entry_of b)
+    → slice_get kept i ≡ Some (kept_unit b)
 entry_at bs kept i b is e =
-    sym (ap (λ es. slice_get es i) is) ∙ slice_get-map entry_of bs i ∙ ap (option_map entry_of) e
+    sym (ap (λ es. slice_get es i) is) ∙ slice_get-map kept_unit bs i ∙ ap (option_map kept_unit) e

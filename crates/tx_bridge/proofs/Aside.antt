@@ -19,7 +19,7 @@ use Rattle.tx_walk.proofs.Trees.{both}
 use Rattle.tx_bridge.specs.Entries.{Kept, units_of}
 use Rattle.tx_bridge.specs.Sound.{entries_of}
 use Rattle.tx_bridge.specs.declared.bridge.Bridge.{Bridge}
-use Rattle.tx_bridge.specs.InPlace.{begins, is_gone, are_within, IsOneChanged}
+use Rattle.tx_bridge.specs.InPlace.{begins_path, is_gone, are_within, IsOneChanged}
 use Rattle.tx_bridge.specs.PartMoves.{NoneAbove}
 use Rattle.tx_bridge.specs.Strays.{Stray, kept_strays, HoldsStray, AreStrays, StandAside, is_beside, path_at}
 use Rattle.tx_bridge.specs.Strays.{strays_beside, stray_of, strays_in, AreTidy}
@@ -202,8 +202,8 @@ module _ (ms : List Mod) (t u : WideTree) (us : List DocUnit) (i : ℕ) (one : I
       let has : one.unit.path ≡ Some p = has_path.1 in
       let none : rest_behind p s.kept.path ≡ None =
       sym (ap (option_and_then (λ q. rest_behind q s.kept.path)) has) ∙ outside i one.unit one.there in
-      let off : begins s.kept.path p ≡ false =
-      not_true (begins s.kept.path p)
+      let off : begins_path s.kept.path p ≡ false =
+      not_true (begins_path s.kept.path p)
       (sym (ap (λ o. is_beside o s.kept.path) (ap (option_and_then (λ (w : DocUnit). w.path)) one.there ∙ has))
       ∙ beside) in
       law s.kept.path u s.tree s.kept.path made at

@@ -8,7 +8,7 @@ use Rattle.tx_exec.specs.Outcomes.{wide_outcome}
 use Rattle.tx_view_form.specs.Outcomes.{Moment, charge, behind}
 use Rattle.tx_bridge.specs.declared.bridge.Bridge.{Bridge}
 use Rattle.tx_bridge.specs.Entries.{Entry, fresh_from, outcome_of, behind_all}
-use Rattle.tx_bridge.specs.Sound.{entries_of, entry_of}
+use Rattle.tx_bridge.specs.Sound.{entries_of, kept_unit}
 use Rattle.tx_bridge.proofs.Partway.{units_in}
 use Rattle.tx_bridge.proofs.Taking.{heads}
 use Rattle.tx_bridge.proofs.Used.{AllAllowed, charge_fits}
@@ -26,10 +26,10 @@ module _ (bs : List Bridge) (start : Moment) (i : ℕ) (m : Moment) (p : BehindS
   abbrev fresh_entry : Entry
   fresh_entry = record { unit = b.unit; trace = outcome_of m b.unit }
 
-  both : (entry_of b ≡ fresh_entry) × (entries_of (drop (i + 1) bs)
+  both : (kept_unit b ≡ fresh_entry) × (entries_of (drop (i + 1) bs)
       ≡ fresh_from (behind m (outcome_of m b.unit)) (units_in (drop (i + 1) bs)))
   both =
-      heads (entry_of b) fresh_entry (entries_of (drop (i + 1) bs))
+      heads (kept_unit b) fresh_entry (entries_of (drop (i + 1) bs))
       (fresh_from (behind m (outcome_of m b.unit)) (units_in (drop (i + 1) bs)))
       (sym (ap entries_of ahead) ∙ p.fresh ∙ ap (λ cs. fresh_from m (units_in cs)) ahead)
 

@@ -19,9 +19,9 @@ use Rattle.tx_exec_form.specs.Evaluated.{WideTrace, evaluated_in, paid}
 use Rattle.tx_exec_form.specs.Laws.{Agrees, Supports}
 use Rattle.tx_exec.specs.Outcomes.{wide_trace}
 use Rattle.tx_parts.specs.Composed.{alone, evaluates}
-use Rattle.tx_parts.specs.Opening.{Sheller, closed}
+use Rattle.tx_parts.specs.Opening.{Sheller, no_shells}
 use Rattle.tx_parts.specs.Shellers.{IsSheller}
-use Rattle.tx_parts.specs.Parts.{Part, parts, parts_by, part_trace, Stored, stored}
+use Rattle.tx_parts.specs.Parts.{Part, parts, parts_by, part_trace, Stored, stored_part}
 use Rattle.tx_parts.specs.LayerCosts.{Holder, layer_costs_by}
 use Rattle.tx_parts.specs.Standing.{StandsIn}
 use Rattle.tx_walk.specs.declared.part.Part.{Part as DonePart}
@@ -35,11 +35,11 @@ use Rattle.tx_view_form.specs.declared.TheConstants.{MOST_UNIT_STEPS}
 use Rattle.tx_view_form.specs.Outcomes.{Moment, allowance, outcome, charge, behind}
 use Rattle.tx_bridge.specs.Entries.{outcome_of}
 use Rattle.tx_bridge.specs.PartsKept.{KeptParts, kept_at, has_parts, unit_parts_by, parts_if_done, fresh_parts_by}
-use Rattle.tx_bridge.specs.Reached.{fits}
+use Rattle.tx_bridge.specs.Reached.{can_be_used}
 use Rattle.tx_bridge.specs.Spares.{UnitSpare, stores_with}
-use Rattle.tx_bridge.specs.Charges.{guide_with, parts_charge_by, whole_charge, unit_charge_by, LayersKnown}
+use Rattle.tx_bridge.specs.Charges.{guide_with, parts_charge_by, whole_charge, unit_charge_by, UnitLayersKnown}
 use Rattle.tx_bridge.specs.HeldParts.{HoldsPart, PartsHold, kept_part, kept_parts}
-use Rattle.tx_bridge.specs.UnitLists.{IsPlaced}
+use Rattle.tx_bridge.specs.UnitLists.{HasPathIfBody}
 use Rattle.tx_walk.proofs.Kept.{Alike, alike}
 use Rattle.tx_bridge.proofs.Used.{AllSupport, AllAllowed, charge_fits}
 
@@ -98,9 +98,9 @@ kept_of_seen : (ds : List DonePart) → map of_seen (map seen ds) ≡ kept_parts
 kept_of_seen [] = refl
 kept_of_seen (d ∷ ds) = ap (λ ks. kept_part d ∷ ks) (kept_of_seen ds)
 
-stored_of_seen : (kept : Stores) (ps : List Part) → map of_seen (map (seen_in kept) ps) ≡ map stored ps
+stored_of_seen : (kept : Stores) (ps : List Part) → map of_seen (map (seen_in kept) ps) ≡ map stored_part ps
 stored_of_seen kept [] = refl
-stored_of_seen kept (p ∷ ps) = ap (λ ks. stored p ∷ ks) (stored_of_seen kept ps)
+stored_of_seen kept (p ∷ ps) = ap (λ ks. stored_part p ∷ ks) (stored_of_seen kept ps)
 
 done_of_seen : (kept : Stores) (ps : List Part) (o : Option WideTrace)
     → map of_seen (seen_parts kept ps o) ≡ parts_if_done o ps
@@ -149,7 +149,7 @@ AllApart = (kept : Stores) (sheller : Sheller) (k c : ℕ) (t : WideTree) (e : B
 abbrev pub AllSameStored : Type 0
 AllSameStored = (sheller : Sheller) → IsSheller sheller → (k c n : ℕ) (path : List ℕ) (t : WideTree) (e d : Before)
     (trace : WideTrace) → evaluates k c t e ≡ Some trace → Agrees d trace.looks → trace.cost ≤ n
-    → map stored (parts_by sheller k n path t d) ≡ map stored (parts_by sheller k c path t e)
+    → map stored_part (parts_by sheller k n path t d) ≡ map stored_part (parts_by sheller k c path t e)
 
 -- where a unit has parts, these are asked for where nothing is shelled
 unshelled : (b shelled : Bool) → b ≡ true → b && shelled ≡ false → shelled ≡ false
@@ -157,7 +157,7 @@ unshelled true shelled nested off = off
 unshelled false shelled nested off = cc
 
 module _ (support : AllSupport) (stand : AllStandIn) (apart : AllApart) (same : AllSameStored) (sheller : Sheller)
-    (sound : IsSheller sheller) (shelled : Bool) (shut : shelled ≡ false → sheller ≡ closed) (kept : Stores) (c : ℕ)
+    (sound : IsSheller sheller) (shelled : Bool) (shut : shelled ≡ false → sheller ≡ no_shells) (kept : Stores) (c : ℕ)
     (e : Before) (u : DocUnit) (nested : has_parts u ≡ true) (ds : List DonePart) (tidy : AllByRecursion IsTidy ds)
   where
     pub walked_hold : (o : Option WideTrace) → o ≡ evaluates MOST_LEVELS c u.tagged.tree e
@@ -172,8 +172,8 @@ module _ (support : AllSupport) (stand : AllStandIn) (apart : AllApart) (same : 
           (stand sheller MOST_LEVELS c [] u.tagged.tree e) tidy;
       distinct = apart kept sheller MOST_LEVELS c u.tagged.tree e ds h;
       all = λ off n d agrees allowed.
-          ap (λ b. if b then map stored (parts MOST_LEVELS n [] u.tagged.tree d) else []) nested
-          ∙ ap (λ (s : Sheller). map stored (parts_by s MOST_LEVELS n [] u.tagged.tree d))
+          ap (λ b. if b then map stored_part (parts MOST_LEVELS n [] u.tagged.tree d) else []) nested
+          ∙ ap (λ (s : Sheller). map stored_part (parts_by s MOST_LEVELS n [] u.tagged.tree d))
           (sym (shut (unshelled (has_parts u) shelled nested off)))
           ∙ same sheller sound MOST_LEVELS c n [] u.tagged.tree e d trace (sym is) agrees allowed
           ∙ sym (walked_parts kept ds (parts_by sheller MOST_LEVELS c [] u.tagged.tree e) (Some trace) h);
@@ -188,7 +188,7 @@ rooted (Some p) h = refl
 abbrev tagged_at : WideTree → Option (List ℕ) → TaggedTree
 tagged_at t at = record { tree = t; at = at }
 
-pub is_alone : (u : DocUnit) → IsPlaced u → has_parts u ≡ true → tagged_of u.tagged ≡ alone u.tagged.tree
+pub is_alone : (u : DocUnit) → HasPathIfBody u → has_parts u ≡ true → tagged_of u.tagged ≡ alone u.tagged.tree
 is_alone u placed nested =
     ap (tagged_at u.tagged.tree) (placed.origin ∙ rooted u.path nested)
 
@@ -200,7 +200,7 @@ module _ (u : DocUnit) (m : Moment) (env : NameMap) (left a : ℕ)
   names_are : get env ≡ get m.env
   names_are = ap (λ (k : Moment). get k.env) view
 
-  pub outcome_there : IsPlaced u → has_parts u ≡ true
+  pub outcome_there : HasPathIfBody u → has_parts u ≡ true
       → evaluates MOST_LEVELS a u.tagged.tree (get env) ≡ outcome_of m u
   unfolding outcome
   outcome_there placed nested =
@@ -240,7 +240,7 @@ module _ (sheller : Sheller) (u : DocUnit) (m : Moment) (env : NameMap) (left a 
   -- what a walk leaves of layers
   pub known_there : (ls : List TreeTrace) (o : Option WideTrace) → has_parts u ≡ true → o ≡ outcome_of m u
       → IfSome o (λ (trace : WideTrace). layer_costs_by (holds_in ls) sheller MOST_LEVELS a u.tagged.tree (get env) ≡ 0)
-      → LayersKnown sheller m u ls
+      → UnitLayersKnown sheller m u ls
   known_there ls o nested is known trace comes =
       ap (λ b. if b
       then layer_costs_by (holds_in ls) sheller MOST_LEVELS (allowance m) u.tagged.tree (get m.env) else 0) nested
@@ -254,7 +254,8 @@ module _ (sheller : Sheller) (u : DocUnit) (m : Moment) (env : NameMap) (left a 
 -- ---- no more than the unit costs
 
 charge_most : (sheller : Sheller) → IsSheller sheller → (m : Moment) (u : DocUnit) (ks : KeptParts)
-    (ls : List TreeTrace) (s : UnitSpare) → IsPlaced u → unit_charge_by sheller m u ks ls s ≤ charge m (outcome_of m u)
+    (ls : List TreeTrace) (s : UnitSpare) → HasPathIfBody u → unit_charge_by sheller m u ks ls s ≤ charge m (outcome_of
+    m u)
 unfolding outcome
 charge_most sheller sound m u ks ls s placed = by (has_parts u) refl
   where
@@ -279,11 +280,11 @@ charge_most sheller sound m u ks ls s placed = by (has_parts u) refl
         let is : unit_charge_by sheller m u ks ls s ≡ whole_charge m u s =
         ap (λ b. if b then parts_charge_by sheller m u ks s.parts ls s.layers else whole_charge m u s) other in
         let most : whole_charge m u s ≤ charge m (outcome_of m u) =
-        unused (fits m s.trace) (charge m (outcome_of m u)) in
+        unused (can_be_used m s.trace) (charge m (outcome_of m u)) in
         omega (arith, is, most)
 
 pub spent_most : (sheller : Sheller) → IsSheller sheller → AllAllowed → (m after : Moment) (u : DocUnit)
-    (ks : KeptParts) (ls : List TreeTrace) (s : UnitSpare) (n : ℕ) → IsPlaced u
+    (ks : KeptParts) (ls : List TreeTrace) (s : UnitSpare) (n : ℕ) → HasPathIfBody u
     → n ≡ unit_charge_by sheller m u ks ls s → after ≡ behind m (outcome_of m u) → n + after.left ≤ m.left
 spent_most sheller sound allowed m after u ks ls s n placed is at =
     let most : unit_charge_by sheller m u ks ls s ≤ charge m (outcome_of m u) =

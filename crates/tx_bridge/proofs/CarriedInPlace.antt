@@ -26,7 +26,7 @@ use Rattle.tx_bridge.specs.CarryingParts.{part_at, and_part, parts_behind, parts
 use Rattle.tx_bridge.specs.Courses.{IsUnitAbove}
 use Rattle.tx_bridge.specs.Entries.{Kept, units_of}
 use Rattle.tx_bridge.specs.HeldParts.{AllPartsHold}
-use Rattle.tx_bridge.specs.InPlace.{begins, is_gone, are_within, IsOneChanged, numbers_but}
+use Rattle.tx_bridge.specs.InPlace.{begins_path, is_gone, are_within, IsOneChanged, numbers_but}
 use Rattle.tx_bridge.specs.Names.{CarryParts, CarryStrays, CarryWithin, PartMoves, Sources, StraysBeside}
 use Rattle.tx_bridge.specs.PartMoves.{Move, NoneAbove, is_vacant, rest_in, unit_above, move_to, moves_below, unit_moves}
 use Rattle.tx_bridge.specs.PartMoves.{moves_from, part_moves, kept_in_unit, arrived, parts_now, all_parts_now}
@@ -47,7 +47,7 @@ use Rattle.tx_bridge.proofs.WithinUnit.{no_rest_of}
 -- ---- paths through modifications inside the subtree at p
 
 -- what stands below p is carried to below p, or nowhere
-one_below : (m : Mod) (t : WideTree) (p q r : List ℕ) → begins p (path_of m) ≡ true
+one_below : (m : Mod) (t : WideTree) (p q r : List ℕ) → begins_path p (path_of m) ≡ true
     → carried_path m t (p ++ q) ≡ Some r → (s : List ℕ) × (r ≡ p ++ s)
 one_below m t p q r inside e = by (subtree t (path_of m)) e
   where
@@ -78,8 +78,8 @@ all_below [] t p q r inside e = (q, sym (same_Some (p ++ q) r e))
 all_below (m ∷ ms) t p q r inside e =
     step (changed m t) (carried_path m t (p ++ q)) refl (λ v s. all_below ms v p s r all.1) e
   where
-    all : (begins p (path_of m) ≡ true) × (are_within p ms ≡ true)
-    all = both (begins p (path_of m)) (are_within p ms) inside
+    all : (begins_path p (path_of m) ≡ true) × (are_within p ms ≡ true)
+    all = both (begins_path p (path_of m)) (are_within p ms) inside
 
     step : (o : Outcome) (c : Option (List ℕ)) → carried_path m t (p ++ q) ≡ c
         → ((v : WideTree) (s : List ℕ) → carried_by_all ms v (p ++ s) ≡ Some r → (x : List ℕ) × (r ≡ p ++ x))
@@ -120,7 +120,7 @@ pub all_holders_go : (ms : List Mod) (t : WideTree) (p q x : List ℕ) (k : ℕ)
 all_holders_go [] t p q x k is gone inside = cc
 all_holders_go (m ∷ ms) t p q x k is gone inside =
     holder_goes m ms t q (x ++ drop (length p) (path_of m)) k
-    (begins_is p (path_of m) (both (begins p (path_of m)) (are_within p ms) inside).0
+    (begins_is p (path_of m) (both (begins_path p (path_of m)) (are_within p ms) inside).0
     ∙ ap (λ a. a ++ drop (length p) (path_of m)) is ∙ append_assoc q (k ∷ x) (drop (length p) (path_of m)))
 
 -- ---- units
@@ -375,9 +375,9 @@ module _ (i : ℕ) (ms : List Mod) (t u x : WideTree) (us : List DocUnit) (made 
       (λ a is.
       let off : None ≡ Some a = sym (h i one.unit one.there) ∙ ap (rest_in one.unit) is ∙ in_rest one.unit p a has in
       cc)
-      (λ a is. by_front (begins s.kept.path p) refl a is) made
+      (λ a is. by_front (begins_path s.kept.path p) refl a is) made
     where
-      by_front : (b : Bool) → begins s.kept.path p ≡ b → (a : List ℕ) → p ≡ s.kept.path ++ a → ⊥
+      by_front : (b : Bool) → begins_path s.kept.path p ≡ b → (a : List ℕ) → p ≡ s.kept.path ++ a → ⊥
       by_front true f a is =
           let off : false ≡ true =
           sym (ap (λ o. is_beside o s.kept.path) path_is_own ∙ ap not f) ∙ e in
@@ -390,7 +390,7 @@ module _ (i : ℕ) (ms : List Mod) (t u x : WideTree) (us : List DocUnit) (made 
   -- and one whose tree holds it goes
   holding_goes : (s : Stray) → NoneAbove s.kept.path us → is_beside (path_at i us) s.kept.path ≡ false
       → carried_by_all ms t s.kept.path ≡ None
-  holding_goes s h e = by_front (begins s.kept.path p) refl
+  holding_goes s h e = by_front (begins_path s.kept.path p) refl
     where
       by_more : (a : List ℕ) → p ≡ s.kept.path ++ a → carried_by_all ms t s.kept.path ≡ None
       by_more [] is =
@@ -400,7 +400,7 @@ module _ (i : ℕ) (ms : List Mod) (t u x : WideTree) (us : List DocUnit) (made 
           cc
       by_more (k ∷ a) is = all_holders_go ms t p s.kept.path a k is gone inside
 
-      by_front : (b : Bool) → begins s.kept.path p ≡ b → carried_by_all ms t s.kept.path ≡ None
+      by_front : (b : Bool) → begins_path s.kept.path p ≡ b → carried_by_all ms t s.kept.path ≡ None
       by_front true f = by_more (drop (length s.kept.path) p) (begins_is s.kept.path p f)
       by_front false f =
           let off : true ≡ false =

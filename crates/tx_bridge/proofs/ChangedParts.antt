@@ -17,13 +17,13 @@ use Rattle.tx_bridge.specs.declared.bridge.Bridge.{Bridge}
 use Rattle.tx_bridge.specs.Entries.{Kept, units_of}
 use Rattle.tx_bridge.specs.PartsKept.{KeptParts}
 use Rattle.tx_bridge.specs.InPlace.{is_gone, are_within, IsOneChanged}
-use Rattle.tx_bridge.specs.Sound.{IsSound, entries_of, parts_in, changed_in}
+use Rattle.tx_bridge.specs.Sound.{IsSoundBridge, entries_of, stored_parts_in, changed_in}
 use Rattle.tx_bridge.specs.Carrying.{AllStand, StandsNow}
 use Rattle.tx_bridge.specs.Slots.{bodies_of}
 use Rattle.tx_bridge.specs.HeldParts.{HoldsPart, kept_parts}
 use Rattle.tx_bridge.specs.CarryingParts.{parts_behind, parts_within, parts_but}
 use Rattle.tx_bridge.specs.MovedParts.{AreMovedParts}
-use Rattle.tx_bridge.specs.Others.{kept_of, parts_of, put_from}
+use Rattle.tx_bridge.specs.Others.{stored_of, done_parts_of, put_from}
 use Rattle.tx_bridge.proofs.Slotting.{some_once}
 use Rattle.tx_bridge.proofs.Arrived.{units_bodies}
 use Rattle.tx_bridge.proofs.Single.{body_at as unit_at}
@@ -41,9 +41,10 @@ old_stands t zero (x ∷ us) h u e p has =
     h.0 p (ap (λ (w : DocUnit). w.path) same ∙ has) ∙ ap (λ (w : DocUnit). Some w.tagged.tree) same
 old_stands t (suc i) (x ∷ us) h u e p has = old_stands t i us h.1 u e p has
 
-sound_at : (bs : List Bridge) → AllByRecursion IsSound bs → (i : ℕ) (b : Bridge) → slice_get bs i ≡ Some b → IsSound b
+sound_at : (bs : List Bridge) → AllByRecursion IsSoundBridge bs → (i : ℕ) (b : Bridge) → slice_get bs i ≡ Some b
+    → IsSoundBridge b
 sound_at [] h i b e = cc
-sound_at (x ∷ bs) h zero b e = subst IsSound (same_Some x b e) h.0
+sound_at (x ∷ bs) h zero b e = subst IsSoundBridge (same_Some x b e) h.0
 sound_at (x ∷ bs) h (suc i) b e = sound_at bs h.1 i b e
 
 body_at : (bs : List Bridge) (i : ℕ) (b : Bridge) → slice_get bs i ≡ Some b → slice_get (bodies_of bs) i ≡ Some b.unit
@@ -66,11 +67,12 @@ bodies_stand t bs read kept is was h =
     subst (AllStand t) (bodies_read bs read kept is was) h
 
 -- the unit of this number stands in the tree, and its parts hold
-pub stands_for : (t : WideTree) (bs : List Bridge) → AllStand t (bodies_of bs) → All IsSound bs → (i : ℕ) (b : Bridge)
+pub stands_for : (t : WideTree) (bs : List Bridge) → AllStand t (bodies_of bs) → All IsSoundBridge bs
+    → (i : ℕ) (b : Bridge)
     → slice_get bs i ≡ Some b → (p : List ℕ) → b.unit.path ≡ Some p → (ps : List DonePart) → ps ≡ b.parts
     → (x : WideTree) × (subtree t p ≡ Some x) × AllByRecursion (HoldsPart x) ps
 stands_for t bs stand sound i b at p has ps is =
-    let s : IsSound b = sound_at bs (recursion_from_All IsSound bs sound) i b at in (
+    let s : IsSoundBridge b = sound_at bs (recursion_from_All IsSoundBridge bs sound) i b at in (
       b.unit.tagged.tree,
       old_stands t i (bodies_of bs) stand b.unit (body_at bs i b at) p has,
       subst (AllByRecursion (HoldsPart b.unit.tagged.tree)) (sym is) s.parts.hold,
@@ -92,7 +94,7 @@ none_kept (p ∷ ps) h = cc
 
 module _ (through : (ms : List Mod) (t : WideTree) (q : List ℕ) → CarriesThroughAll ms t q)
     (carries : (m : Mod) (t : WideTree) (q : List ℕ) → CarriesSubtree m t q) (i : ℕ) (ms : List Mod)
-    (before v t : WideTree) (made : changed_by_all ms before ≡ Some v) (bs : List Bridge) (sound : All IsSound bs)
+    (before v t : WideTree) (made : changed_by_all ms before ≡ Some v) (bs : List Bridge) (sound : All IsSoundBridge bs)
     (old : AllStand before (bodies_of bs)) (new : StandsNow i t v (bodies_of bs)) where
   hold_at : (b : Bridge) → slice_get bs i ≡ Some b → (ps : List DonePart) → AllByRecursion IsTidy ps
       → (o : Option (List ℕ)) → b.unit.path ≡ o
@@ -100,7 +102,7 @@ module _ (through : (ms : List Mod) (t : WideTree) (q : List ℕ) → CarriesThr
   unfolding IsDistinct
   hold_at b at ps once None e is = subst (AllHoldIn t) (sym (none_kept ps is)) (tt, tt)
   hold_at b at ps once (Some p) e is =
-      let s : IsSound b = sound_at bs (recursion_from_All IsSound bs sound) i b at in
+      let s : IsSoundBridge b = sound_at bs (recursion_from_All IsSoundBridge bs sound) i b at in
       parts_hold_behind ms before v p b.unit.tagged.tree t b.parts ps (through ms before) carries made
       (old_stands before i (bodies_of bs) old b.unit (body_at bs i b at) p e)
       (new b.unit p (body_at bs i b at) e) s.parts.hold s.parts.distinct is once
@@ -129,7 +131,7 @@ never_bare ms bs i b at one none =
     clash (ap (λ o. option_map_or (λ q. is_gone q ms && are_within q ms) o false)
     (sym (ap (λ (u : DocUnit). u.path) same ∙ none)) ∙ one.changed)
 
-pub parts_there : (bs : List Bridge) (i : ℕ) (b : Bridge) → slice_get bs i ≡ Some b → parts_of i bs ≡ b.parts
+pub parts_there : (bs : List Bridge) (i : ℕ) (b : Bridge) → slice_get bs i ≡ Some b → done_parts_of i bs ≡ b.parts
 parts_there bs i b at = ap (λ o. option_map_or (λ (w : Bridge). w.parts) o []) at
 
 -- ---- what the calls ask for, and what they ensure
@@ -139,7 +141,7 @@ unit_of_entry : (bs : List Bridge) (kept : Kept) → entries_of bs ≡ kept → 
 unit_of_entry bs kept was i b at = ap (λ us. slice_get us i) (bodies_are bs kept was) ∙ body_at bs i b at
 
 parts_at : (bs : List Bridge) (i : ℕ) (b : Bridge) → slice_get bs i ≡ Some b
-    → slice_get (parts_in bs) i ≡ Some (kept_parts b.parts)
+    → slice_get (stored_parts_in bs) i ≡ Some (kept_parts b.parts)
 parts_at [] i b e = cc
 parts_at (x ∷ bs) zero b e = ap Some (ap (λ (w : Bridge). kept_parts w.parts) (same_Some x b e))
 parts_at (x ∷ bs) (suc i) b e = parts_at bs i b e
@@ -150,7 +152,7 @@ AreMovedAt i ms t kept pss os = (u : DocUnit) (ks : KeptParts) → slice_get (un
     → slice_get pss i ≡ Some ks → AreMovedParts ms t u ks os
 
 module _ (i : ℕ) (ms : List Mod) (before : WideTree) (os : List (ℕ × Option DonePart)) (bs : List Bridge) (kept : Kept)
-    (pss : List KeptParts) (was : entries_of bs ≡ kept) (had : parts_in bs ≡ pss) where
+    (pss : List KeptParts) (was : entries_of bs ≡ kept) (had : stored_parts_in bs ≡ pss) where
   -- what is told of the entry of this number is told of what is seen of it
   pub moved_told : (read : List Bridge) → read ≡ bs
       → ((b : Bridge) → slice_get read i ≡ Some b → AreMovedParts ms before b.unit (kept_parts b.parts) os)
@@ -172,38 +174,39 @@ module _ (i : ℕ) (ms : List Mod) (before : WideTree) (os : List (ℕ × Option
 
     -- what is kept of the unit's parts, where they are put
     kept_moved : (b : Bridge) → slice_get bs i ≡ Some b
-        → kept_parts (put_from 0 os (parts_of i bs)) ≡ parts_within ms before b.unit (kept_parts b.parts)
+        → kept_parts (put_from 0 os (done_parts_of i bs)) ≡ parts_within ms before b.unit (kept_parts b.parts)
     kept_moved b at =
-        kept_put 0 os (parts_of i bs)
-        ∙ ap (λ ps. put_from 0 (kept_of os) (kept_parts ps)) (parts_there bs i b at) ∙ (moved_of b at).kept
+        kept_put 0 os (done_parts_of i bs)
+        ∙ ap (λ ps. put_from 0 (stored_of os) (kept_parts ps)) (parts_there bs i b at) ∙ (moved_of b at).kept
 
-    pub parts_moved : (t : WideTree) → parts_in (changed_in i t (put_from 0 os (parts_of i bs)) bs)
+    pub parts_moved : (t : WideTree) → stored_parts_in (changed_in i t (put_from 0 os (done_parts_of i bs)) bs)
         ≡ parts_but ms before i (units_of kept) pss
     parts_moved t =
-        changed_parts i ms before t (put_from 0 os (parts_of i bs)) bs kept_moved
-        ∙ ap (λ us. parts_but ms before i us (parts_in bs)) (sym (bodies_are bs kept was))
+        changed_parts i ms before t (put_from 0 os (done_parts_of i bs)) bs kept_moved
+        ∙ ap (λ us. parts_but ms before i us (stored_parts_in bs)) (sym (bodies_are bs kept was))
         ∙ ap (parts_but ms before i (units_of kept)) had
 
     pub moved_hold : ((ms : List Mod) (t : WideTree) (q : List ℕ) → CarriesThroughAll ms t q)
         → ((m : Mod) (t : WideTree) (q : List ℕ) → CarriesSubtree m t q) → (t : WideTree)
-        → ((u : WideTree) × (changed_by_all ms before ≡ Some u)) → All IsSound bs → IsOneChanged i 0 ms (units_of kept)
+        → ((u : WideTree) × (changed_by_all ms before ≡ Some u)) → All IsSoundBridge bs
+        → IsOneChanged i 0 ms (units_of kept)
         → AllStand before (units_of kept)
         → ((u : WideTree) → changed_by_all ms before ≡ Some u → StandsNow i t u (units_of kept))
-        → AllHoldIn t (put_from 0 os (parts_of i bs))
+        → AllHoldIn t (put_from 0 os (done_parts_of i bs))
     moved_hold through carries t made sound one old new =
         let bodies : units_of kept ≡ bodies_of bs = bodies_are bs kept was in
         let x : (b : Bridge) × (slice_get bs i ≡ Some b) × (b.unit ≡ one.unit) =
         unit_at bs i one.unit (ap (λ us. slice_get us i) (sym bodies) ∙ one.there) in
-        let s : IsSound x.0 = sound_at bs (recursion_from_All IsSound bs sound) i x.0 x.1 in
-        let tidy : All IsTidy (parts_of i bs) =
+        let s : IsSoundBridge x.0 = sound_at bs (recursion_from_All IsSoundBridge bs sound) i x.0 x.1 in
+        let tidy : All IsTidy (done_parts_of i bs) =
         subst (All IsTidy) (sym (parts_there bs i x.0 x.1))
         (held_tidy x.0.unit.tagged.tree x.0.parts s.parts.hold) in
         hold_changed through carries i ms before made.0 t made.1 bs sound (subst (AllStand before) bodies old)
-        (subst (StandsNow i t made.0) bodies (new made.0 made.1)) x.0 x.1 (put_from 0 os (parts_of i bs))
-        (recursion_from_All IsTidy (put_from 0 os (parts_of i bs))
-        (tidy_all os (parts_of i bs) (moved_of x.0 x.1).tidy tidy)) (kept_moved x.0 x.1)
+        (subst (StandsNow i t made.0) bodies (new made.0 made.1)) x.0 x.1 (put_from 0 os (done_parts_of i bs))
+        (recursion_from_All IsTidy (put_from 0 os (done_parts_of i bs))
+        (tidy_all os (done_parts_of i bs) (moved_of x.0 x.1).tidy tidy)) (kept_moved x.0 x.1)
 
 pub now_is : (i : ℕ) (t : WideTree) (os : List (ℕ × Option DonePart)) (bs written new : List Bridge) → written ≡ bs
-    → new ≡ changed_in i t (put_from 0 os (parts_of i written)) written
-    → new ≡ changed_in i t (put_from 0 os (parts_of i bs)) bs
-now_is i t os bs written new was h = h ∙ ap (λ xs. changed_in i t (put_from 0 os (parts_of i xs)) xs) was
+    → new ≡ changed_in i t (put_from 0 os (done_parts_of i written)) written
+    → new ≡ changed_in i t (put_from 0 os (done_parts_of i bs)) bs
+now_is i t os bs written new was h = h ∙ ap (λ xs. changed_in i t (put_from 0 os (done_parts_of i xs)) xs) was

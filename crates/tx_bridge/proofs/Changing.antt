@@ -21,7 +21,8 @@ use Rattle.tx_bridge.specs.declared.bridge.Bridge.{Bridge}
 use Rattle.tx_bridge.specs.UnitLists.{AreUnits}
 use Rattle.tx_bridge.specs.Entries.{Kept, units_of}
 use Rattle.tx_bridge.specs.Settled.{AreSettled, IsSilent}
-use Rattle.tx_bridge.specs.Sound.{IsSound, AreRight, entry_of, entries_of, parts_in, layers_in, sources_in}
+use Rattle.tx_bridge.specs.Sound.{IsSoundBridge, AreRight, kept_unit, entries_of, stored_parts_in, layers_in}
+use Rattle.tx_bridge.specs.Sound.{sources_in}
 use Rattle.tx_bridge.specs.Sound.{changed_bridge, changed_in}
 use Rattle.tx_walk.specs.declared.part.Part.{Part as DonePart}
 use Rattle.tx_walk.specs.Walked.{paths_of}
@@ -68,12 +69,12 @@ units_changed i t ps [] = refl
 units_changed zero t ps (b ∷ bs) = refl
 units_changed (suc i) t ps (b ∷ bs) = ap (λ us. b.unit ∷ us) (units_changed i t ps bs)
 
-other_entry : (c : Bool) (k : ℕ) (b : Bridge) → c ≡ false → entry_of (settled_one c k b b.unit) ≡ entry_of b
+other_entry : (c : Bool) (k : ℕ) (b : Bridge) → c ≡ false → kept_unit (settled_one c k b b.unit) ≡ kept_unit b
 other_entry true k b e = cc
 other_entry false k b e = refl
 
 new_entry : (c : Bool) (k : ℕ) (t : WideTree) (ps : List DonePart) (b : Bridge) → c ≡ true
-    → entry_of (settled_one c k b (unit_with t b.unit)) ≡ entry_of (changed_bridge t ps b)
+    → kept_unit (settled_one c k b (unit_with t b.unit)) ≡ kept_unit (changed_bridge t ps b)
 new_entry true k t ps b e = refl
 new_entry false k t ps b e = cc
 
@@ -83,7 +84,7 @@ settled_others j k [] l = refl
 settled_others j k (b ∷ bs) l =
     ap (λ e. e ∷ entries_of (settled j (k + 1) bs (bodies_of bs)))
     (other_entry (k == j) k b (differs k j (λ e. absurd (omega (arith, e, l)))))
-    ∙ ap (λ es. entry_of b ∷ es) (settled_others j (k + 1) bs (omega (arith, l)))
+    ∙ ap (λ es. kept_unit b ∷ es) (settled_others j (k + 1) bs (omega (arith, l)))
 
 settled_changed : (i j k : ℕ) (t : WideTree) (ps : List DonePart) (bs : List Bridge) → j ≡ k + i
     → entries_of (settled j k bs (units_with i t (bodies_of bs))) ≡ entries_of (changed_in i t ps bs)
@@ -92,11 +93,11 @@ settled_changed zero j k t ps (b ∷ bs) is =
     let same : k ≡ j = omega (arith, is) in
     ap (λ e. e ∷ entries_of (settled j (k + 1) bs (bodies_of bs)))
     (new_entry (k == j) k t ps b ((Decides-eqb k j).1 same))
-    ∙ ap (λ es. entry_of (changed_bridge t ps b) ∷ es) (settled_others j (k + 1) bs (omega (arith, is)))
+    ∙ ap (λ es. kept_unit (changed_bridge t ps b) ∷ es) (settled_others j (k + 1) bs (omega (arith, is)))
 settled_changed (suc i) j k t ps (b ∷ bs) is =
     ap (λ e. e ∷ entries_of (settled j (k + 1) bs (units_with i t (bodies_of bs))))
     (other_entry (k == j) k b (differs k j (λ e. absurd (omega (arith, e, is)))))
-    ∙ ap (λ es. entry_of b ∷ es) (settled_changed i j (k + 1) t ps bs (omega (arith, is)))
+    ∙ ap (λ es. kept_unit b ∷ es) (settled_changed i j (k + 1) t ps bs (omega (arith, is)))
 
 -- ---- what is true of each, and of all
 
@@ -105,7 +106,7 @@ abbrev pub AllHoldIn : WideTree → List DonePart → Type 0
 AllHoldIn t ps = AllByRecursion (HoldsPart t) ps × IsDistinct bytes_eq (paths_of ps)
 
 changed_sound : (i : ℕ) (t : WideTree) (ps : List DonePart) (bs : List Bridge) → AllHoldIn t ps
-    → AllByRecursion IsSound bs → AllByRecursion IsSound (changed_in i t ps bs)
+    → AllByRecursion IsSoundBridge bs → AllByRecursion IsSoundBridge (changed_in i t ps bs)
 changed_sound i t ps [] hold h = tt
 changed_sound zero t ps (b ∷ bs) hold h = (
   record {
@@ -140,8 +141,8 @@ changed_right i t ps old now flag after was are is hold right h stray tidy =
     subst (λ bs. AreRight after bs are) (sym is)
     (record {
       sound =
-          All-from_recursion IsSound (changed_in i t ps old)
-          (changed_sound i t ps old hold (recursion_from_All IsSound old right.sound));
+          All-from_recursion IsSoundBridge (changed_in i t ps old)
+          (changed_sound i t ps old hold (recursion_from_All IsSoundBridge old right.sound));
       units =
           subst AreUnits
           (sym (units_changed i t ps old ∙ ap (units_with i t) (units_bodies old)))
@@ -155,9 +156,9 @@ changed_right i t ps old now flag after was are is hold right h stray tidy =
 -- the parts that are kept
 pub changed_parts : (i : ℕ) (ms : List Mod) (before t : WideTree) (ps : List DonePart) (bs : List Bridge)
     → ((b : Bridge) → slice_get bs i ≡ Some b → kept_parts ps ≡ parts_within ms before b.unit (kept_parts b.parts))
-    → parts_in (changed_in i t ps bs) ≡ parts_but ms before i (bodies_of bs) (parts_in bs)
+    → stored_parts_in (changed_in i t ps bs) ≡ parts_but ms before i (bodies_of bs) (stored_parts_in bs)
 changed_parts i ms before t ps [] h = refl
-changed_parts zero ms before t ps (b ∷ bs) h = ap (λ ks. ks ∷ parts_in bs) (h b refl)
+changed_parts zero ms before t ps (b ∷ bs) h = ap (λ ks. ks ∷ stored_parts_in bs) (h b refl)
 changed_parts (suc i) ms before t ps (b ∷ bs) h =
     ap (λ pss. kept_parts b.parts ∷ pss) (changed_parts i ms before t ps bs h)
 
@@ -173,7 +174,7 @@ pub record IsInPlace (i : ℕ) (ms : List Mod) (before t : WideTree) (kept : Kep
   pub units : units_of (entries_of result) ≡ units_with i t us
 
 module _ (i : ℕ) (ms : List Mod) (before t : WideTree) (ps : List DonePart) (old : List Bridge)
-    (applies : (u : WideTree) × (changed_by_all ms before ≡ Some u)) (sound : All IsSound old) where
+    (applies : (u : WideTree) × (changed_by_all ms before ≡ Some u)) (sound : All IsSoundBridge old) where
   by_bodies : AreUnits (bodies_of old) → IsOneChanged i 0 ms (bodies_of old)
       → IsInPlace i ms before t (entries_of old) (bodies_of old) (changed_in i t ps old)
   by_bodies are one =

@@ -25,7 +25,7 @@ use Rattle.tx_bridge.specs.HeldParts.{HoldsPart, kept_part, kept_parts}
 use Rattle.tx_bridge.specs.PartMoves.{Move, unit_above, move_to, move_from, move_of, moves_below, unit_moves}
 use Rattle.tx_bridge.specs.PartMoves.{moves_from, move_aside, moves_aside, seen_move}
 use Rattle.tx_bridge.specs.Slots.{bodies_of, paths_in}
-use Rattle.tx_bridge.specs.Sound.{parts_in}
+use Rattle.tx_bridge.specs.Sound.{stored_parts_in}
 use Rattle.tx_bridge.specs.Strays.{Stray, HoldsStray, StandAside, AreTidy, kept_strays, stray_of, strays_in}
 use Rattle.tx_bridge.specs.declared.strays.Stray.{Stray as DoneStray}
 use Rattle.tx_bridge.proofs.Above.{far_at}
@@ -130,13 +130,13 @@ module _ (ms : List Mod) (t : WideTree) (vs : List DocUnit) (bs : List Bridge) (
 
   pub units_next : (old new all : List Move)
       → new ≡ old ++ unit_moves ms t vs i b.unit (kept_parts b.parts)
-      → old ++ moves_from ms t vs i (bodies_of (drop i bs)) (parts_in (drop i bs)) ≡ all
-      → new ++ moves_from ms t vs (i + 1) (bodies_of (drop (i + 1) bs)) (parts_in (drop (i + 1) bs)) ≡ all
+      → old ++ moves_from ms t vs i (bodies_of (drop i bs)) (stored_parts_in (drop i bs)) ≡ all
+      → new ++ moves_from ms t vs (i + 1) (bodies_of (drop (i + 1) bs)) (stored_parts_in (drop (i + 1) bs)) ≡ all
   units_next old new all e g =
-      ap (λ xs. xs ++ moves_from ms t vs (i + 1) (bodies_of (drop (i + 1) bs)) (parts_in (drop (i + 1) bs))) e
+      ap (λ xs. xs ++ moves_from ms t vs (i + 1) (bodies_of (drop (i + 1) bs)) (stored_parts_in (drop (i + 1) bs))) e
       ∙ append_assoc old (unit_moves ms t vs i b.unit (kept_parts b.parts))
-      (moves_from ms t vs (i + 1) (bodies_of (drop (i + 1) bs)) (parts_in (drop (i + 1) bs)))
-      ∙ ap (λ cs. old ++ moves_from ms t vs i (bodies_of cs) (parts_in cs)) (sym bridges_ahead) ∙ g
+      (moves_from ms t vs (i + 1) (bodies_of (drop (i + 1) bs)) (stored_parts_in (drop (i + 1) bs)))
+      ∙ ap (λ cs. old ++ moves_from ms t vs i (bodies_of cs) (stored_parts_in cs)) (sym bridges_ahead) ∙ g
 
   pub unit_stands : AllStand t (bodies_of bs) → Stands t b.unit
   unit_stands stand = subst (λ (c : Bridge). Stands t c.unit) (sym is) (by bs i stand inside)

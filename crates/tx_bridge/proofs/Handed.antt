@@ -8,8 +8,8 @@ use Rattle.std.proofs.lemmas.Bool.Decides.{Decides-eqb}
 use Rattle.std.specs.Prelude.{Bool, true, false, ◌==◌, slice_get, if◌then◌else◌, IfSome}
 use Rattle.tx_units.specs.declared.kinds.Unit.{Unit as DocUnit}
 use Rattle.tx_bridge.specs.declared.bridge.Bridge.{Bridge}
-use Rattle.tx_bridge.specs.UnitLists.{IsPlaced}
-use Rattle.tx_bridge.specs.Slots.{stays, IsSlot, AreApart, AllPlaced, AreMoved, given_from, given_all}
+use Rattle.tx_bridge.specs.UnitLists.{HasPathIfBody}
+use Rattle.tx_bridge.specs.Slots.{stays, IsSlot, HaveOwnPaths, AllPlaced, AreMoved, given_from, given_all}
 use Rattle.tx_bridge.specs.Slots.{IsInOrder, AreInOrder, HasOrder}
 use Rattle.tx_walk.proofs.Trees.{alike}
 
@@ -89,7 +89,7 @@ module _ (place : Option (List ℕ)) (i : ℕ) (b : Bridge) where
   given_units o (w ∷ ws) zero v e = (w, refl, unit_kept (stays place i b.unit o w.unit) w v e)
   given_units o (w ∷ ws) (suc k) v e = given_units (o + 1) ws k v e
 
-  pub given_apart : (new : List Bridge) → AreApart new → AreApart (given_from place i b 0 new)
+  pub given_apart : (new : List Bridge) → HaveOwnPaths new → HaveOwnPaths (given_from place i b 0 new)
   given_apart new apart j k v w p at_j at_k is_v is_w =
       let x : (u : Bridge) × (slice_get new j ≡ Some u) × (v.unit ≡ u.unit) = given_units 0 new j v at_j in
       let y : (u : Bridge) × (slice_get new k ≡ Some u) × (w.unit ≡ u.unit) = given_units 0 new k w at_k in
@@ -99,7 +99,7 @@ module _ (place : Option (List ℕ)) (i : ℕ) (b : Bridge) where
   pub given_placed : (new : List Bridge) → AllPlaced new → AllPlaced (given_from place i b 0 new)
   given_placed new placed k v at =
       let x : (u : Bridge) × (slice_get new k ≡ Some u) × (v.unit ≡ u.unit) = given_units 0 new k v at in
-      subst IsPlaced (sym x.2) (placed k x.0 x.1)
+      subst HasPathIfBody (sym x.2) (placed k x.0 x.1)
 
   given_order : (new : List Bridge) (first : ℕ) → AreInOrder first new → AreInOrder first (given_from place i b 0 new)
   given_order new first order k v at =
@@ -110,7 +110,7 @@ module _ (place : Option (List ℕ)) (i : ℕ) (b : Bridge) where
 pub record Giving (places : List (Option (List ℕ))) (old now start new : List Bridge) (i : ℕ) : Type 0 where
   pub given : given_all i (drop i places) (drop i now) new ≡ given_all 0 places old start
   pub rest : drop i now ≡ drop i old
-  pub apart : AreApart new
+  pub apart : HaveOwnPaths new
   pub placed : AllPlaced new
   pub order : (first : ℕ) → AreInOrder first start → AreInOrder first new
 
@@ -139,7 +139,7 @@ module _ (places : List (Option (List ℕ))) (old now start new : List Bridge) (
             ∙ g.given;
         rest = others ∙ sym (sym (drop-drop 1 i old) ∙ ap (drop 1) (sym g.rest ∙ ahead));
         apart =
-            subst AreApart (sym is_next)
+            subst HaveOwnPaths (sym is_next)
             (given_apart (slice_index_or places i e) i (slice_index_or now i d) new g.apart);
         placed =
             subst AllPlaced (sym is_next)
@@ -167,5 +167,5 @@ module _ (places : List (Option (List ℕ))) (old now start new : List Bridge) (
       law i q (slice_index_or now i d) (slice_get_read places (length places) i q refl within is) (old_here inside d)
       none
 
-  pub placed_here : AllPlaced old → i < length now → (d : Bridge) → IsPlaced (slice_index_or now i d).unit
+  pub placed_here : AllPlaced old → i < length now → (d : Bridge) → HasPathIfBody (slice_index_or now i d).unit
   placed_here all inside d = all i (slice_index_or now i d) (old_here inside d)

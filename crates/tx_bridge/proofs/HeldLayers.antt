@@ -21,11 +21,11 @@ use Rattle.tx_walk.proofs.Agreed.{agrees_is, agrees_of}
 use Rattle.tx_walk.proofs.Trees.{both, same_is}
 use Rattle.tx_view_form.specs.Outcomes.{Moment, allowance}
 use Rattle.tx_bridge.specs.Entries.{Entry, outcome_of}
-use Rattle.tx_bridge.specs.Reached.{fits}
+use Rattle.tx_bridge.specs.Reached.{can_be_used}
 use Rattle.tx_bridge.specs.PartsKept.{has_parts, fresh_parts_by}
 use Rattle.tx_bridge.specs.Spares.{UnitSpare}
-use Rattle.tx_bridge.specs.Charges.{charge_by, LayersHold, LayersKnown}
-use Rattle.tx_bridge.specs.UnitLists.{IsPlaced}
+use Rattle.tx_bridge.specs.Charges.{charge_by, LayersHold, UnitLayersKnown}
+use Rattle.tx_bridge.specs.UnitLists.{HasPathIfBody}
 use Rattle.tx_bridge.proofs.ByParts.{AllSameStored, outcome_there}
 use Rattle.tx_bridge.proofs.Remaining.{AllTraced}
 use Rattle.tx_bridge.proofs.Spared.{AllDistinct, staying_charged, fresh_stays}
@@ -89,9 +89,9 @@ more_either ls rs t e h = ap (λ b. b || holds_in rs t e) h
 -- a unit whose trace fits, whose parts a refresh has left, and whose layers are known, is charged nothing
 pub charged_nothing : AllSupport → AllAllowed → AllAgree → AllSameStored → AllTraced → AllDistinct → AllAgain
     → AllFewer → (sheller : Sheller) → IsSheller sheller → (m n : Moment) (e : Entry) (ls : List TreeTrace)
-    (s : UnitSpare) (trace : WideTrace) → IsPlaced e.unit → e.trace ≡ Some trace
-    → outcome_of n e.unit ≡ Some trace → fits m (Some trace) ≡ true → LayersHold ls
-    → LayersKnown sheller n e.unit ls → charge_by sheller m e (fresh_parts_by sheller n e.unit) ls s ≡ 0
+    (s : UnitSpare) (trace : WideTrace) → HasPathIfBody e.unit → e.trace ≡ Some trace
+    → outcome_of n e.unit ≡ Some trace → can_be_used m (Some trace) ≡ true → LayersHold ls
+    → UnitLayersKnown sheller n e.unit ls → charge_by sheller m e (fresh_parts_by sheller n e.unit) ls s ≡ 0
 charged_nothing support allowed agree same traced distinct again fewer sheller sound m n e ls s trace placed at is fit
     hold known =
     staying_charged distinct sheller m e (fresh_parts_by sheller n e.unit) ls s

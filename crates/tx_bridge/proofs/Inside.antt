@@ -19,7 +19,7 @@ use Rattle.tx_mod.specs.Mods.{path_of}
 use Rattle.tx_mod.specs.Changes.{Outcome, changed, changed_at, put_back}
 use Rattle.tx_mod.specs.Moves.{rest_behind, carried_at, carried_path}
 use Rattle.tx_mod.specs.Followed.{outcome_tree, changed_by_all, carried_by_all}
-use Rattle.tx_bridge.specs.InPlace.{wraps, begins, leaves_nowhere, are_within}
+use Rattle.tx_bridge.specs.InPlace.{wraps, begins_path, leaves_nowhere, are_within}
 use Rattle.tx_walk.proofs.Trees.{both}
 
 -- ---- fronts of paths
@@ -64,7 +64,7 @@ fronts_meet (i ∷ q) (k ∷ r) s x e f g =
     (λ y is. f y (ap (λ n. n ∷ r) (sym h.0) ∙ ap (λ xs. i ∷ xs) is))
     (λ y is. g y (ap (λ n. n ∷ q) h.0 ∙ ap (λ xs. k ∷ xs) is))
 
-pub begins_is : (q p : List ℕ) → begins q p ≡ true → p ≡ q ++ drop (length q) p
+pub begins_is : (q p : List ℕ) → begins_path q p ≡ true → p ≡ q ++ drop (length q) p
 begins_is q p e = (starts_is Decides-eqb p q (starts_with nat_eq p q) refl).0 e
 
 -- ---- one modification inside the subtree at q
@@ -90,7 +90,7 @@ stays_put m t s r e down up =
     ∙ ap (λ o. by_rest m s r o (rest_behind r (path_of m))) down ∙ ap (by_rest m s r None) up
 
 -- a path that isn't above or below q stays
-one_stays : (m : Mod) (t u : WideTree) (q r : List ℕ) → changed m t ≡ Ok u → begins q (path_of m) ≡ true
+one_stays : (m : Mod) (t u : WideTree) (q r : List ℕ) → changed m t ≡ Ok u → begins_path q (path_of m) ≡ true
     → IsNoFront q r → IsNoFront r q → carried_path m t r ≡ Some r
 one_stays m t u q r made inside f g =
     let s : List ℕ = drop (length q) (path_of m) in
@@ -133,7 +133,7 @@ goes_down m x q s is h (Some r) e =
     ap (λ y. option_map (λ v. path_of m ++ v) (carried_at m x y)) none
     ∙ ap (option_map (λ v. path_of m ++ v)) (nowhere_at m x (no_wrap m q h (omega (arith, one, other))))
 
-goes : (m : Mod) (t : WideTree) (q : List ℕ) → begins q (path_of m) ≡ true → leaves_nowhere q m ≡ true
+goes : (m : Mod) (t : WideTree) (q : List ℕ) → begins_path q (path_of m) ≡ true → leaves_nowhere q m ≡ true
     → carried_path m t q ≡ None
 goes m t q inside h = by (subtree t (path_of m))
   where
@@ -146,7 +146,7 @@ goes m t q inside h = by (subtree t (path_of m))
 
 -- ---- all of them
 
-stay_step : (m : Mod) (ms : List Mod) (t u : WideTree) (q r : List ℕ) → begins q (path_of m) ≡ true → IsNoFront q r
+stay_step : (m : Mod) (ms : List Mod) (t u : WideTree) (q r : List ℕ) → begins_path q (path_of m) ≡ true → IsNoFront q r
     → IsNoFront r q → ((v : WideTree) → changed_by_all ms v ≡ Some u → carried_by_all ms v r ≡ Some r)
     → (o : Outcome) → changed m t ≡ o → option_and_then (changed_by_all ms) (outcome_tree o) ≡ Some u
     → option_and_then (λ v. option_and_then (carried_by_all ms v) (carried_path m t r)) (outcome_tree o) ≡ Some r
@@ -158,8 +158,8 @@ pub all_stay : (ms : List Mod) (t u : WideTree) (q r : List ℕ) → are_within 
     → IsNoFront r q → changed_by_all ms t ≡ Some u → carried_by_all ms t r ≡ Some r
 all_stay [] t u q r inside f g made = refl
 all_stay (m ∷ ms) t u q r inside f g made =
-    let all : (begins q (path_of m) ≡ true) × (are_within q ms ≡ true) =
-    both (begins q (path_of m)) (are_within q ms) inside in
+    let all : (begins_path q (path_of m) ≡ true) × (are_within q ms ≡ true) =
+    both (begins_path q (path_of m)) (are_within q ms) inside in
     stay_step m ms t u q r all.0 f g (λ v h. all_stay ms v u q r all.1 f g h) (changed m t) refl made
 
 go_step : (m : Mod) (ms : List Mod) (t : WideTree) (q : List ℕ) → carried_path m t q ≡ None → (o : Outcome)
@@ -170,4 +170,4 @@ go_step m ms t q none (Err cause) = refl
 pub all_go : (m : Mod) (ms : List Mod) (t : WideTree) (q : List ℕ) → are_within q (m ∷ ms) ≡ true
     → leaves_nowhere q m ≡ true → carried_by_all (m ∷ ms) t q ≡ None
 all_go m ms t q inside h =
-    go_step m ms t q (goes m t q (both (begins q (path_of m)) (are_within q ms) inside).0 h) (changed m t)
+    go_step m ms t q (goes m t q (both (begins_path q (path_of m)) (are_within q ms) inside).0 h) (changed m t)

@@ -21,7 +21,7 @@ use Rattle.tx_mod.specs.Moves.{carried_at, carried_path}
 use Rattle.tx_mod.specs.Followed.{outcome_tree, changed_by_all, carried_by_all}
 use Rattle.tx_mod.proofs.Cases.{by_test}
 use Rattle.tx_walk.proofs.Trees.{both}
-use Rattle.tx_bridge.specs.InPlace.{begins, are_within}
+use Rattle.tx_bridge.specs.InPlace.{begins_path, are_within}
 use Rattle.tx_bridge.specs.Keeping.{is_below, stands_before, keeps_by_split, keeps_by_join, keeps_at, keeps_place}
 use Rattle.tx_bridge.specs.Keeping.{all_keep_place}
 use Rattle.tx_bridge.proofs.Inside.{rest_is, begins_is, by_rest, stands_at}
@@ -156,7 +156,7 @@ rest_past [] s r = refl
 rest_past (i ∷ q) s r =
     ap (λ b. if b then rest_behind (q ++ s) (q ++ r) else None) ((Decides-eqb i i).1 refl) ∙ rest_past q s r
 
-pub place_below : (m : Mod) (q s r : List ℕ) → begins q (path_of m) ≡ true → s ≡ drop (length q) (path_of m)
+pub place_below : (m : Mod) (q s r : List ℕ) → begins_path q (path_of m) ≡ true → s ≡ drop (length q) (path_of m)
     → option_map_or (keeps_at m) (rest_behind s r) (not (is_some (rest_behind r s))) ≡ keeps_place m (q ++ r)
 place_below m q s r inside is =
     let path : path_of m ≡ q ++ s = begins_is q (path_of m) inside ∙ ap (λ x. q ++ x) (sym is) in
@@ -185,15 +185,15 @@ module _ (base : List ℕ) (ms : List Mod) (q : List ℕ) (i : ℕ) (h : KeepsOn
     unfolding m
     ahead = drop_more ms i d inside
 
-    all : (begins base (path_of m) ≡ true) × (are_within base (drop (i + 1) ms) ≡ true)
+    all : (begins_path base (path_of m) ≡ true) × (are_within base (drop (i + 1) ms) ≡ true)
     all =
-        both (begins base (path_of m)) (are_within base (drop (i + 1) ms))
+        both (begins_path base (path_of m)) (are_within base (drop (i + 1) ms))
         (ap (are_within base) (sym ahead) ∙ h.within)
 
     rest : keeps_place m q && all_keep_place (drop (i + 1) ms) q ≡ all_keep_place ms q
     rest = ap (λ ns. all_keep_place ns q) (sym ahead) ∙ h.same
 
-    pub inside_next : begins base (path_of (slice_index_or ms i d)) ≡ true
+    pub inside_next : begins_path base (path_of (slice_index_or ms i d)) ≡ true
     unfolding m
     inside_next = all.0
 

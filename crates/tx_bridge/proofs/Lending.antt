@@ -18,12 +18,12 @@ use Rattle.tx_view_form.specs.Outcomes.{Moment, allowance}
 use Rattle.tx_bridge.specs.declared.bridge.Bridge.{Bridge}
 use Rattle.tx_bridge.specs.Bridged.{Bridged}
 use Rattle.tx_bridge.specs.Entries.{Entry, units_of, outcome_of}
-use Rattle.tx_bridge.specs.Reached.{fits}
+use Rattle.tx_bridge.specs.Reached.{can_be_used}
 use Rattle.tx_bridge.specs.HeldParts.{HoldsPart, kept_parts}
-use Rattle.tx_bridge.specs.Sound.{Holds, IsSound, entries_of, parts_in, layers_in}
+use Rattle.tx_bridge.specs.Sound.{TraceHolds, IsSoundBridge, entries_of, stored_parts_in, layers_in}
 use Rattle.tx_bridge.specs.PartsKept.{KeptParts, has_parts}
 use Rattle.tx_bridge.specs.Spares.{UnitSpare, first_spare, kept_spare, spares_of}
-use Rattle.tx_bridge.specs.Charges.{parts_charge_by, whole_charge, unit_charge_by, charge_by, LayersKnown}
+use Rattle.tx_bridge.specs.Charges.{parts_charge_by, whole_charge, unit_charge_by, charge_by, UnitLayersKnown}
 use Rattle.tx_bridge.specs.Lent.{lent_spare, spare_of, spare_parts, spare_layers, spares_in, IsSpareOf, IsUsable}
 use Rattle.tx_bridge.specs.Lent.{HaveUnitsOf}
 use Rattle.tx_bridge.proofs.Partway.{units_in}
@@ -71,21 +71,21 @@ bare_charge sheller m u ks ls s nested =
 
 -- it has no layers
 pub bare_known : (sheller : Sheller) (m : Moment) (u : DocUnit) (ls : List TreeTrace) → has_parts u ≡ false
-    → LayersKnown sheller m u ls
+    → UnitLayersKnown sheller m u ls
 bare_known sheller m u ls nested trace is =
     ap (λ b. if b
     then layer_costs_by (holds_in ls) sheller MOST_LEVELS (allowance m) u.tagged.tree (get m.env) else 0) nested
 
 -- where it can be used, the unit comes to it
 pub is_usable : (m : Moment) (u : DocUnit) (o : Option Bridge) (b : Bridge) → o ≡ Some b → IfSome o (IsSpareOf u)
-    → fits m (wide_outcome b.kept) ≡ true → IsUsable m u o b.kept
+    → can_be_used m (wide_outcome b.kept) ≡ true → IsUsable m u o b.kept
 is_usable m u o b is h fit =
     let own : IsSpareOf u b = subst (λ p. IfSome p (IsSpareOf u)) is h in
     record {
-      fitting = ap (λ p. fits m (spare_of p).trace) is ∙ fit;
+      fitting = ap (λ p. can_be_used m (spare_of p).trace) is ∙ fit;
       comes =
           fits_is m (wide_outcome b.kept) (tagged_of u.tagged)
-          (subst (λ (v : DocUnit). Holds (wide_outcome b.kept) (tagged_of v.tagged)) own.unit own.sound.holds) fit;
+          (subst (λ (v : DocUnit). TraceHolds (wide_outcome b.kept) (tagged_of v.tagged)) own.unit own.sound.holds) fit;
       once = own.sound.once;
     }
 
@@ -104,13 +104,13 @@ pub charged : (sheller : Sheller) (m : Moment) (e : Entry) (ps : KeptParts) (ls 
 charged sheller m e ps ls o r s n is same first =
     is ∙ ap (λ p. charge_by sheller m e ps ls (spare_of p)) same ∙ ap (charge_by sheller m e ps ls) (sym first)
 
-sound_at : (ss : List Bridge) (i : ℕ) (s : Bridge) → All IsSound ss → slice_get ss i ≡ Some s → IsSound s
+sound_at : (ss : List Bridge) (i : ℕ) (s : Bridge) → All IsSoundBridge ss → slice_get ss i ≡ Some s → IsSoundBridge s
 sound_at ss i s h is =
     let inside : i < length ss = slice_get_within ss i s is in
-    subst IsSound (same_Some (slice_index_or ss i s) s (sym (slice_get-get_or ss i s inside) ∙ is)) (h i s inside)
+    subst IsSoundBridge (same_Some (slice_index_or ss i s) s (sym (slice_get-get_or ss i s inside) ∙ is)) (h i s inside)
 
 -- what is lent of the unit of number i, of those from there on
-pub lent_here : (ss old : List Bridge) (i : ℕ) (b : Bridge) (rest : List Bridge) → All IsSound ss
+pub lent_here : (ss old : List Bridge) (i : ℕ) (b : Bridge) (rest : List Bridge) → All IsSoundBridge ss
     → HaveUnitsOf ss old → drop i old ≡ b ∷ rest → IfSome (slice_get ss i) (IsSpareOf b.unit)
 lent_here ss old i b rest sound same ahead = by (slice_get ss i) refl
   where
@@ -138,13 +138,14 @@ have_units ss bs None none same = subst (λ xs. HaveUnitsOf xs bs) (sym none) (n
 have_units ss bs (Some b) kept same = units_alike ss bs (ap units_of kept ∙ same)
 
 -- what is lent, as contracts see it
-pub zipped : (ss : List Bridge) → map kept_spare (zip (entries_of ss) (zip (parts_in ss) (layers_in ss))) ≡ spares_in ss
+pub zipped : (ss : List Bridge) → map kept_spare (zip (entries_of ss) (zip (stored_parts_in ss) (layers_in ss)))
+    ≡ spares_in ss
 zipped [] = refl
 zipped (s ∷ ss) = ap (λ r. lent_spare s ∷ r) (zipped ss)
 
-pub all_lent : (ss : List Bridge) (o : Bridged) → entries_of ss ≡ o.kept → parts_in ss ≡ o.parts
+pub all_lent : (ss : List Bridge) (o : Bridged) → entries_of ss ≡ o.kept → stored_parts_in ss ≡ o.parts
     → layers_in ss ≡ o.layers → spares_in ss ≡ spares_of (Some o)
 all_lent ss o kept parts layers =
-    sym (zipped ss) ∙ ap (λ es. map kept_spare (zip es (zip (parts_in ss) (layers_in ss)))) kept
+    sym (zipped ss) ∙ ap (λ es. map kept_spare (zip es (zip (stored_parts_in ss) (layers_in ss)))) kept
     ∙ ap (λ pss. map kept_spare (zip o.kept (zip pss (layers_in ss)))) parts
     ∙ ap (λ lss. map kept_spare (zip o.kept (zip o.parts lss))) layers

@@ -16,7 +16,7 @@ use Rattle.tx_units.specs.declared.kinds.UnitKind.TheVariants.{Base, Style, Init
 use Rattle.tx_units.specs.Places.{UnitStandsIn, AreApart, NoneBegins}
 use Rattle.tx_units.specs.Units.{unit, base_units, loaded_units, absent_unit, named_units, style_units, entry_units}
 use Rattle.tx_units.specs.Units.{initial_units, body_units, front_units, units}
-use Rattle.tx_bridge.specs.UnitLists.{IsPlaced, AreUnits, is_body}
+use Rattle.tx_bridge.specs.UnitLists.{HasPathIfBody, AreUnits, is_body_unit}
 use Rattle.tx_bridge.specs.Carrying.{Stands, AllStand, HaveOneTree, AreSameBodies}
 
 all_both : {X : Type 0} (P : X → Type 0) (xs ys : List X) → AllByRecursion P xs → AllByRecursion P ys
@@ -34,7 +34,7 @@ all_then P Q f (x ∷ xs) h = (f x h.0, all_then P Q f xs h.1)
 pub record IsBare (u : DocUnit) : Type 0 where
   pub path : u.path ≡ None
   pub origin : u.tagged.at ≡ None
-  pub kind : is_body u.kind ≡ false
+  pub kind : is_body_unit u.kind ≡ false
 
 mapped : {X : Type 0} (f : X → DocUnit) → ((x : X) → IsBare (f x)) → (xs : List X) → AllByRecursion IsBare (map f xs)
 mapped f h [] = tt
@@ -92,15 +92,15 @@ front_bare document styles =
 some_once : {A : Type 0} (x y : A) → Some x ≡ Some y → x ≡ y
 some_once x y e = cc
 
-bare_placed : (u : DocUnit) → IsBare u → IsPlaced u
+bare_placed : (u : DocUnit) → IsBare u → HasPathIfBody u
 bare_placed u h = record {
   path = ap is_some h.path ∙ sym h.kind;
   origin = h.origin ∙ sym (ap (option_map (λ _. [])) h.path);
 }
 
-body_placed : (t : WideTree) (u : DocUnit) → UnitStandsIn t u → IsPlaced u
+body_placed : (t : WideTree) (u : DocUnit) → UnitStandsIn t u → HasPathIfBody u
 body_placed t u h = record {
-  path = ap is_some h.has_path ∙ sym (ap is_body h.is_body);
+  path = ap is_some h.has_path ∙ sym (ap is_body_unit h.is_body);
   origin = h.at_root ∙ sym (ap (option_map (λ _. [])) h.has_path);
 }
 
@@ -135,9 +135,9 @@ module _ (stand : (t : WideTree) → AllByRecursion (UnitStandsIn t) (body_units
   pub units_are : AreUnits (units buffers)
   units_are = record {
     placed =
-        all_both IsPlaced (front_units (document_of buffers) (drop 1 buffers)) (body_units (document_of buffers))
-        (all_then IsBare IsPlaced bare_placed (front_units (document_of buffers) (drop 1 buffers)) bare)
-        (all_then (UnitStandsIn (document_of buffers)) IsPlaced (body_placed (document_of buffers))
+        all_both HasPathIfBody (front_units (document_of buffers) (drop 1 buffers)) (body_units (document_of buffers))
+        (all_then IsBare HasPathIfBody bare_placed (front_units (document_of buffers) (drop 1 buffers)) bare)
+        (all_then (UnitStandsIn (document_of buffers)) HasPathIfBody (body_placed (document_of buffers))
         (body_units (document_of buffers)) (stand (document_of buffers)));
     apart =
         front_apart (front_units (document_of buffers) (drop 1 buffers)) (body_units (document_of buffers)) bare

@@ -10,7 +10,7 @@ use Rattle.tx_tree.specs.WideTree.{WideTree}
 use Rattle.tx_exec_form.specs.Evaluated.{WideTrace}
 use Rattle.tx_exec.specs.Outcomes.{wide_trace, wide_outcome}
 use Rattle.tx_parts.specs.Composed.{alone}
-use Rattle.tx_parts.specs.Parts.{Part, part_trace, Stored, stored}
+use Rattle.tx_parts.specs.Parts.{Part, part_trace, Stored, stored_part}
 use Rattle.tx_walk.specs.declared.part.Part.{Part as DonePart}
 use Rattle.tx_walk.specs.Held.{Store, Stores, fits as part_fits, serves}
 use Rattle.tx_walk.specs.Walked.{stores_in, paths_of, Seen, seen, seen_in, seen_parts}
@@ -20,13 +20,13 @@ use Rattle.tx_units.specs.declared.kinds.Unit.{Unit as DocUnit}
 use Rattle.tx_view_form.specs.Outcomes.{Moment}
 use Rattle.tx_bridge.specs.declared.bridge.Bridge.{Bridge}
 use Rattle.tx_bridge.specs.Entries.{outcome_of}
-use Rattle.tx_bridge.specs.Reached.{fits}
+use Rattle.tx_bridge.specs.Reached.{can_be_used}
 use Rattle.tx_bridge.specs.PartsKept.{KeptParts, kept_at, has_parts, unit_parts, parts_if_done, flags_if_done}
 use Rattle.tx_bridge.specs.PartsKept.{unit_parts_by, part_flags, part_flags_by}
 use Rattle.tx_parts.specs.Opening.{Sheller}
 use Rattle.tx_bridge.specs.HeldParts.{HoldsPart, PartsHold, AreItsParts, kept_part, kept_parts, flags_of_parts}
 use Rattle.tx_bridge.specs.HeldParts.{unmarked_part, unmarked}
-use Rattle.tx_bridge.specs.Sound.{IsSound}
+use Rattle.tx_bridge.specs.Sound.{IsSoundBridge}
 use Rattle.tx_bridge.proofs.ByParts.{same_store}
 use Rattle.tx_bridge.proofs.Used.{AllAgree, parts_fit}
 use Rattle.tx_bridge.proofs.Taking.{heads}
@@ -107,7 +107,7 @@ unmarked_sound shelled u o ps h = record {
 }
 
 -- what stays of a unit that isn't reached is sound
-pub left_sound : (b c : Bridge) → IsSound b
+pub left_sound : (b c : Bridge) → IsSoundBridge b
     → c ≡ record {
       unit = b.unit;
       kept = b.kept;
@@ -117,9 +117,9 @@ pub left_sound : (b c : Bridge) → IsSound b
       renewed = false;
       source = b.source;
     }
-    → IsSound c
+    → IsSoundBridge c
 left_sound b c h is =
-    subst IsSound (sym is)
+    subst IsSoundBridge (sym is)
     (record {
       holds = h.holds;
       once = h.once;
@@ -187,7 +187,7 @@ each_kept (d ∷ ds) distinct = (
 )
 
 one_held : AllAgree → (kept : Store) (d : DonePart) (p : Part) → kept d.path ≡ Some (wide_trace d.trace)
-    → kept_part d ≡ stored p → not (serves kept p) ≡ false
+    → kept_part d ≡ stored_part p → not (serves kept p) ≡ false
 one_held agree kept d p is same =
     let path : d.path ≡ p.path = ap (λ (k : Stored). k.path) same in
     let trace : Some (wide_trace d.trace) ≡ part_trace p = ap (λ (k : Stored). k.trace) same in
@@ -197,13 +197,13 @@ one_held agree kept d p is same =
     (agree p.levels p.steps (alone p.tree) p.before (wide_trace d.trace) (sym trace)))
 
 all_held : AllAgree → (kept : Store) (ds : List DonePart) (ps : List Part) → AreKept kept ds
-    → kept_parts ds ≡ map stored ps → flags_of_parts (unmarked ds) ≡ map (λ p. not (serves kept p)) ps
+    → kept_parts ds ≡ map stored_part ps → flags_of_parts (unmarked ds) ≡ map (λ p. not (serves kept p)) ps
 all_held agree kept [] [] is same = refl
 all_held agree kept [] (p ∷ ps) is same = cc
 all_held agree kept (d ∷ ds) [] is same = cc
 all_held agree kept (d ∷ ds) (p ∷ ps) is same =
-    let parts : (kept_part d ≡ stored p) × (kept_parts ds ≡ map stored ps) =
-    heads (kept_part d) (stored p) (kept_parts ds) (map stored ps) same in
+    let parts : (kept_part d ≡ stored_part p) × (kept_parts ds ≡ map stored_part ps) =
+    heads (kept_part d) (stored_part p) (kept_parts ds) (map stored_part ps) same in
     ap (λ fs. false ∷ fs) (all_held agree kept ds ps is.1 parts.1)
     ∙ ap (λ f. f ∷ map (λ q. not (serves kept q)) ps) (sym (one_held agree kept d p is.0 parts.0))
 
@@ -223,7 +223,7 @@ flags_of_done agree m u ds true (Some trace) distinct h =
 
 -- so none of them is evaluated
 pub left_flags : AllAgree → (m : Moment) (u : DocUnit) (o : Option WideTrace) (ds qs : List DonePart)
-    → fits m o ≡ true → o ≡ outcome_of m u → IsDistinct bytes_eq (paths_of ds) → AreItsParts u (kept_parts ds) o
+    → can_be_used m o ≡ true → o ≡ outcome_of m u → IsDistinct bytes_eq (paths_of ds) → AreItsParts u (kept_parts ds) o
     → qs ≡ unmarked ds → flags_of_parts qs ≡ part_flags m u (kept_parts ds)
 left_flags agree m u o ds qs fit is distinct its are =
     ap flags_of_parts are

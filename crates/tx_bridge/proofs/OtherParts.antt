@@ -24,7 +24,7 @@ use Rattle.tx_bridge.specs.MovedParts.{AreMovedParts, moves_of, places_by}
 use Rattle.tx_bridge.specs.HeldParts.{HoldsPart, kept_part, kept_parts}
 use Rattle.tx_bridge.specs.PartsKept.{KeptParts}
 use Rattle.tx_bridge.specs.Keeping.{all_keep_place}
-use Rattle.tx_bridge.specs.Others.{others_from, path_of_part, kept_there, kept_others, kept_of, and_some, put_from}
+use Rattle.tx_bridge.specs.Others.{others_from, path_of_part, kept_there, kept_others, stored_of, and_some, put_from}
 use Rattle.tx_bridge.proofs.Inside.{rest_own}
 use Rattle.tx_bridge.proofs.WithinUnit.{at_path, part_paths}
 use Rattle.tx_bridge.proofs.KeptPlaces.{places_stay}
@@ -42,17 +42,17 @@ kept_and None ps = refl
 kept_and (Some q) ps = refl
 
 pub kept_put : (i : ℕ) (os : List (ℕ × Option DonePart)) (ps : List DonePart)
-    → kept_parts (put_from i os ps) ≡ put_from i (kept_of os) (kept_parts ps)
+    → kept_parts (put_from i os ps) ≡ put_from i (stored_of os) (kept_parts ps)
 kept_put i [] ps = refl
 kept_put i (o ∷ os) [] = refl
 kept_put i (o ∷ os) (p ∷ ps) =
     by (o.0 == i) (kept_put (i + 1) os ps) (kept_put (i + 1) (o ∷ os) ps)
   where
-    by : (b : Bool) → kept_parts (put_from (i + 1) os ps) ≡ put_from (i + 1) (kept_of os) (kept_parts ps)
-        → kept_parts (put_from (i + 1) (o ∷ os) ps) ≡ put_from (i + 1) (kept_of (o ∷ os)) (kept_parts ps)
+    by : (b : Bool) → kept_parts (put_from (i + 1) os ps) ≡ put_from (i + 1) (stored_of os) (kept_parts ps)
+        → kept_parts (put_from (i + 1) (o ∷ os) ps) ≡ put_from (i + 1) (stored_of (o ∷ os)) (kept_parts ps)
         → kept_parts (if b then and_some o.1 (put_from (i + 1) os ps) else p ∷ put_from (i + 1) (o ∷ os) ps)
-        ≡ (if b then and_some (option_map kept_part o.1) (put_from (i + 1) (kept_of os) (kept_parts ps))
-        else kept_part p ∷ put_from (i + 1) (kept_of (o ∷ os)) (kept_parts ps))
+        ≡ (if b then and_some (option_map kept_part o.1) (put_from (i + 1) (stored_of os) (kept_parts ps))
+        else kept_part p ∷ put_from (i + 1) (stored_of (o ∷ os)) (kept_parts ps))
     by true e f = kept_and o.1 (put_from (i + 1) os ps) ∙ ap (and_some (option_map kept_part o.1)) e
     by false e f = ap (λ ks. kept_part p ∷ ks) f
 
@@ -113,7 +113,7 @@ place_kept None = refl
 place_kept (Some d) = refl
 
 -- what is kept of the others tells where they stand
-moves_kept : (os : List (ℕ × Option DonePart)) → moves_of os ≡ map (λ k. (k.0, place_of k.1)) (kept_of os)
+moves_kept : (os : List (ℕ × Option DonePart)) → moves_of os ≡ map (λ k. (k.0, place_of k.1)) (stored_of os)
 moves_kept [] = refl
 moves_kept (o ∷ os) =
     ap (λ q. (o.0, q) ∷ moves_of os) (place_kept o.1)
@@ -224,11 +224,11 @@ module _ (ms : List Mod) (t u : WideTree) (p : List ℕ) (made : changed_by_all 
   -- others whose places the modifications tell are those that aren't found to stay
   pub moved_are : (ps : List DonePart) (os : List (ℕ × Option DonePart)) (ns : List ℕ)
       (paths places : List (Option (List ℕ))) → ns ≡ others_from ms p 0 ps → paths ≡ map (path_of_part p ps) ns
-      → places ≡ map (through ms t) paths → kept_of os ≡ kept_others p ps ns places
+      → places ≡ map (through ms t) paths → stored_of os ≡ kept_others p ps ns places
       → All (λ (o : ℕ × Option DonePart). IfSome o.1 IsTidy) os → (v : DocUnit) → v.path ≡ Some p
       → AreMovedParts ms t v (kept_parts ps) os
   moved_are ps os ns paths places numbers stood stand is tidy v has =
-      let told : kept_of os ≡ with_numbers (there ps) (others_from ms p 0 ps) =
+      let told : stored_of os ≡ with_numbers (there ps) (others_from ms p 0 ps) =
       is ∙ ap (kept_others p ps ns) (stand ∙ ap (map (through ms t)) stood) ∙ kept_each ps ns
       ∙ ap (with_numbers (there ps)) numbers in
       let moves : moves_of os ≡ with_numbers (λ n. place_of (there ps n)) (others_from ms p 0 ps) =
@@ -255,7 +255,7 @@ module _ (ms : List Mod) (t u : WideTree) (p : List ℕ) (made : changed_by_all 
   pub none_moved : (ps : List DonePart) (os : List (ℕ × Option DonePart)) → others_from ms p 0 ps ≡ [] → os ≡ []
       → (v : DocUnit) → v.path ≡ Some p → AreMovedParts ms t v (kept_parts ps) os
   none_moved ps os empty none =
-      moved_are ps os [] [] [] (sym empty) refl refl (ap kept_of none)
+      moved_are ps os [] [] [] (sym empty) refl refl (ap stored_of none)
       (subst (All (λ (o : ℕ × Option DonePart). IfSome o.1 IsTidy)) (sym none)
       (All-from_recursion (λ (o : ℕ × Option DonePart). IfSome o.1 IsTidy) [] tt))
 
@@ -313,7 +313,7 @@ number_next ms p ps i d ns after inside so_far pushed =
 -- behind j of the others
 pub record OthersSoFar (p : List ℕ) (ps : List DonePart) (ns : List ℕ) (places : List (Option (List ℕ)))
     (os : List (ℕ × Option DonePart)) (j : ℕ) : Type 0 where
-  pub kept : kept_of os ++ kept_others p ps (drop j ns) (drop j places) ≡ kept_others p ps ns places
+  pub kept : stored_of os ++ kept_others p ps (drop j ns) (drop j places) ≡ kept_others p ps ns places
   pub tidy : All (λ (o : ℕ × Option DonePart). IfSome o.1 IsTidy) os
 
 pub other_next : (p : List ℕ) (ps : List DonePart) (ns : List ℕ) (places : List (Option (List ℕ)))
@@ -326,11 +326,11 @@ other_next p ps ns places os after j n place o g inside number is_number is_plac
     (record {
       kept =
           ap (λ xs. xs ++ rest) (map-append kept_one os ((n, o) ∷ []))
-          ∙ append_assoc (kept_of os) (kept_one (n, o) ∷ []) rest
-          ∙ ap (λ k. kept_of os ++ (n, k) ∷ rest) is
-          ∙ ap (λ ms. kept_of os ++ kept_others p ps ms (place ∷ drop (j + 1) places))
+          ∙ append_assoc (stored_of os) (kept_one (n, o) ∷ []) rest
+          ∙ ap (λ k. stored_of os ++ (n, k) ∷ rest) is
+          ∙ ap (λ ms. stored_of os ++ kept_others p ps ms (place ∷ drop (j + 1) places))
           (sym (drop_more ns j 0 inside ∙ ap (λ m. m ∷ drop (j + 1) ns) (sym is_number)))
-          ∙ ap (λ qs. kept_of os ++ kept_others p ps (drop j ns) qs)
+          ∙ ap (λ qs. stored_of os ++ kept_others p ps (drop j ns) qs)
           (sym (drop_more places j place (omega (arith, inside, number))
           ∙ ap (λ q. q ∷ drop (j + 1) places) (sym is_place)))
           ∙ g.kept;

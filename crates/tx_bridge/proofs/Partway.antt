@@ -22,10 +22,11 @@ use Rattle.tx_bridge.specs.PartsKept.{KeptParts, fresh_parts_by, fresh_parts_by_
 use Rattle.tx_bridge.specs.PartsKept.{part_flags_by_from}
 use Rattle.tx_bridge.specs.Spares.{Spares, first_spare}
 use Rattle.tx_walk.specs.LayerTraces.{TreeTrace}
-use Rattle.tx_bridge.specs.Charges.{charge_by, charges_by, LayersKnown, AllLayersKnown}
+use Rattle.tx_bridge.specs.Charges.{charge_by, charges_by, UnitLayersKnown, AllLayersKnown}
 use Rattle.tx_bridge.specs.HeldParts.{kept_parts, flags_of_parts}
 use Rattle.tx_bridge.specs.Settled.{AgreesWith, AreSettled}
-use Rattle.tx_bridge.specs.Sound.{IsSound, entry_of, entries_of, parts_in, part_flags_in, layers_in, flags_of}
+use Rattle.tx_bridge.specs.Sound.{IsSoundBridge, kept_unit, entries_of, stored_parts_in, part_flags_in, layers_in}
+use Rattle.tx_bridge.specs.Sound.{flags_of}
 use Rattle.tx_bridge.specs.Sound.{sources_in}
 
 abbrev pub units_in : List Bridge → List DocUnit
@@ -39,7 +40,7 @@ Stays old now = (k : ℕ) → slice_get (flags_of now) k ≡ Some false
 -- so are their parts
 abbrev pub SameParts : List Bridge → List Bridge → Type 0
 SameParts old now = (k : ℕ) → slice_get (flags_of now) k ≡ Some false
-    → slice_get (parts_in now) k ≡ slice_get (parts_in old) k
+    → slice_get (stored_parts_in now) k ≡ slice_get (stored_parts_in old) k
 
 -- Behind i units, at the moment m, with these charges, of a refresh from the moment `start` with these spares. What is
 -- done, and what is left from here, are all. Where the flag is set, what is left settles from what names have.
@@ -49,27 +50,29 @@ pub record Partway (sheller : Sheller) (old now : List Bridge) (spares : Spares)
   pub room : spent + m.left ≤ MOST_VIEW_STEPS
   pub settled : flag ≡ true → AreSettled m.env (entries_of (drop i old))
   pub fresh : entries_of (take i now) ++ fresh_from m (units_in (drop i old)) ≡ fresh_from start (units_in old)
-  pub parts : parts_in (take i now) ++ fresh_parts_by_from sheller m (units_in (drop i old))
+  pub parts : stored_parts_in (take i now) ++ fresh_parts_by_from sheller m (units_in (drop i old))
       ≡ fresh_parts_by_from sheller start (units_in old)
   pub marks : part_flags_in (take i now)
-      ++ part_flags_by_from sheller m (entries_of (drop i old)) (parts_in (drop i old))
-      ≡ part_flags_by_from sheller start (entries_of old) (parts_in old)
+      ++ part_flags_by_from sheller m (entries_of (drop i old)) (stored_parts_in (drop i old))
+      ≡ part_flags_by_from sheller start (entries_of old) (stored_parts_in old)
   pub rest : drop i now ≡ drop i old
-  pub flags : flags_of (take i now) ++ reached_by_from sheller m (entries_of (drop i old)) (parts_in (drop i old))
-      ≡ reached_by_from sheller start (entries_of old) (parts_in old)
-  pub steps : after + charges_by sheller m (entries_of (drop i old)) (parts_in (drop i old)) (layers_in (drop i old))
+  pub flags : flags_of (take i now) ++ reached_by_from sheller m (entries_of (drop i old)) (stored_parts_in (drop i
+      old))
+      ≡ reached_by_from sheller start (entries_of old) (stored_parts_in old)
+  pub steps : after + charges_by sheller m (entries_of (drop i old)) (stored_parts_in (drop i old)) (layers_in (drop i
+      old))
       (drop i spares)
-      ≡ before + charges_by sheller start (entries_of old) (parts_in old) (layers_in old) spares
+      ≡ before + charges_by sheller start (entries_of old) (stored_parts_in old) (layers_in old) spares
   pub known : (lss : List (List TreeTrace)) → AllLayersKnown sheller m (units_in (drop i old)) lss
       → AllLayersKnown sheller start (units_in old) (layers_in (take i now) ++ lss)
-  pub sound : All IsSound now
+  pub sound : All IsSoundBridge now
   pub units : units_in now ≡ units_in old
   pub sources : sources_in now ≡ sources_in old
   pub stays : Stays old now
   pub same : SameParts old now
 
 pub begun : (sheller : Sheller) (old : List Bridge) (spares : Spares) (start : Moment) (flag : Bool) (before : ℕ)
-    → All IsSound old → (flag ≡ true → AreSettled start.env (entries_of old)) → start.left ≤ MOST_VIEW_STEPS
+    → All IsSoundBridge old → (flag ≡ true → AreSettled start.env (entries_of old)) → start.left ≤ MOST_VIEW_STEPS
     → Partway sheller old old spares start 0 start flag before before 0
 begun sheller old spares start flag before sound settled left = record {
   paid = omega arith;
@@ -137,7 +140,7 @@ abbrev parts_of : Bridge → KeptParts
 parts_of b = kept_parts b.parts
 
 brought_entry : (sheller : Sheller) (b y : Bridge) (m : Moment) → IsBrought sheller b y m
-    → entry_of y ≡ entry_with b.unit (outcome_of m b.unit)
+    → kept_unit y ≡ entry_with b.unit (outcome_of m b.unit)
 brought_entry sheller b y m h = entry_is y.unit b.unit (wide_outcome y.kept) (outcome_of m b.unit) h.unit h.fresh
 
 module _ (sheller : Sheller) (old now : List Bridge) (spares : Spares) (start : Moment) (i : ℕ) (m : Moment)
@@ -160,7 +163,7 @@ module _ (sheller : Sheller) (old now : List Bridge) (spares : Spares) (start : 
   unfolding b
   next_is = ahead
 
-  settled_here : flag ≡ true → AreSettled m.env (entry_of b ∷ entries_of (drop (i + 1) old))
+  settled_here : flag ≡ true → AreSettled m.env (kept_unit b ∷ entries_of (drop (i + 1) old))
   settled_here e = subst (λ bs. AreSettled m.env (entries_of bs)) ahead (p.settled e)
 
   -- where all settles, the next looks agree
@@ -176,16 +179,16 @@ module _ (sheller : Sheller) (old now : List Bridge) (spares : Spares) (start : 
       → Stays old (slice_set now i y)
   unfolding b
   stays_next y unit kept =
-      set_stays entry_of (λ k. slice_get (entries_of old) k) now i y p.stays
+      set_stays kept_unit (λ k. slice_get (entries_of old) k) now i y p.stays
       (λ flag. ap Some (entry_is y.unit b.unit (wide_outcome y.kept) (wide_outcome b.kept) unit (kept flag))
-      ∙ sym (get_dropped entry_of old i b (drop (i + 1) old) ahead))
+      ∙ sym (get_dropped kept_unit old i b (drop (i + 1) old) ahead))
 
   same_next : (y : Bridge)
       → (y.renewed ≡ false → kept_parts y.parts ≡ kept_parts (slice_index_or now i d).parts)
       → SameParts old (slice_set now i y)
   unfolding b
   same_next y same =
-      set_stays parts_of (λ k. slice_get (parts_in old) k) now i y p.same
+      set_stays parts_of (λ k. slice_get (stored_parts_in old) k) now i y p.same
       (λ flag. ap Some (same flag) ∙ sym (get_dropped parts_of old i b (drop (i + 1) old) ahead))
 
   pub units_next : (y : Bridge) → y.unit ≡ (slice_index_or now i d).unit
@@ -206,8 +209,8 @@ module _ (sheller : Sheller) (old now : List Bridge) (spares : Spares) (start : 
       ap (λ bs. entries_of bs ++ fresh_from (behind m (outcome_of m b.unit)) (units_in (drop (i + 1) old)))
       (more_taken y)
       ∙ ap (λ es. es ++ fresh_from (behind m (outcome_of m b.unit)) (units_in (drop (i + 1) old)))
-      (map-append entry_of (take i now) (y ∷ []))
-      ∙ append_assoc (entries_of (take i now)) (entry_of y ∷ [])
+      (map-append kept_unit (take i now) (y ∷ []))
+      ∙ append_assoc (entries_of (take i now)) (kept_unit y ∷ [])
       (fresh_from (behind m (outcome_of m b.unit)) (units_in (drop (i + 1) old)))
       ∙ ap (λ e. entries_of (take i now)
       ++ e ∷ fresh_from (behind m (outcome_of m b.unit)) (units_in (drop (i + 1) old)))
@@ -216,23 +219,23 @@ module _ (sheller : Sheller) (old now : List Bridge) (spares : Spares) (start : 
       ∙ p.fresh
 
   pub parts_next : (y : Bridge) → IsBrought sheller (slice_index_or now i d) y m
-      → parts_in (take (i + 1) (slice_set now i y))
+      → stored_parts_in (take (i + 1) (slice_set now i y))
       ++ fresh_parts_by_from sheller (behind m (outcome_of m (slice_index_or now i d).unit)) (units_in (drop
       (i + 1) old))
       ≡ fresh_parts_by_from sheller start (units_in old)
   unfolding b
   parts_next y brought =
-      ap (λ bs. parts_in bs ++ fresh_parts_by_from sheller (behind m (outcome_of m b.unit)) (units_in (drop
+      ap (λ bs. stored_parts_in bs ++ fresh_parts_by_from sheller (behind m (outcome_of m b.unit)) (units_in (drop
       (i + 1) old)))
       (more_taken y)
       ∙ ap (λ ks. ks ++ fresh_parts_by_from sheller (behind m (outcome_of m b.unit)) (units_in (drop (i + 1) old)))
       (map-append (λ (w : Bridge). kept_parts w.parts) (take i now) (y ∷ []))
-      ∙ append_assoc (parts_in (take i now)) (kept_parts y.parts ∷ [])
+      ∙ append_assoc (stored_parts_in (take i now)) (kept_parts y.parts ∷ [])
       (fresh_parts_by_from sheller (behind m (outcome_of m b.unit)) (units_in (drop (i + 1) old)))
-      ∙ ap (λ k. parts_in (take i now)
+      ∙ ap (λ k. stored_parts_in (take i now)
       ++ k ∷ fresh_parts_by_from sheller (behind m (outcome_of m b.unit)) (units_in (drop (i + 1) old)))
       brought.parts
-      ∙ ap (λ bs. parts_in (take i now) ++ fresh_parts_by_from sheller m (units_in bs)) (sym ahead)
+      ∙ ap (λ bs. stored_parts_in (take i now) ++ fresh_parts_by_from sheller m (units_in bs)) (sym ahead)
       ∙ p.parts
 
   pub marks_next : (y : Bridge) → flags_of_parts y.parts
@@ -240,25 +243,26 @@ module _ (sheller : Sheller) (old now : List Bridge) (spares : Spares) (start : 
       → part_flags_in (take (i + 1) (slice_set now i y))
       ++ part_flags_by_from sheller (behind m (outcome_of m (slice_index_or now i d).unit)) (entries_of (drop
       (i + 1) old))
-      (parts_in (drop (i + 1) old))
-      ≡ part_flags_by_from sheller start (entries_of old) (parts_in old)
+      (stored_parts_in (drop (i + 1) old))
+      ≡ part_flags_by_from sheller start (entries_of old) (stored_parts_in old)
   unfolding b
   marks_next y mark =
       let rest : List (List Bool) =
-      part_flags_by_from sheller (behind m (outcome_of m b.unit)) (entries_of (drop (i + 1) old)) (parts_in (drop
+      part_flags_by_from sheller (behind m (outcome_of m b.unit)) (entries_of (drop (i + 1) old)) (stored_parts_in (drop
       (i + 1) old)) in
       ap (λ bs. part_flags_in bs ++ rest) (more_taken y)
       ∙ ap (λ fs. fs ++ rest) (map-append (λ (w : Bridge). flags_of_parts w.parts) (take i now) (y ∷ []))
       ∙ append_assoc (part_flags_in (take i now)) (flags_of_parts y.parts ∷ []) rest
       ∙ ap (λ f. part_flags_in (take i now) ++ f ∷ rest) mark
-      ∙ ap (λ bs. part_flags_in (take i now) ++ part_flags_by_from sheller m (entries_of bs) (parts_in bs)) (sym ahead)
+      ∙ ap (λ bs. part_flags_in (take i now) ++ part_flags_by_from sheller m (entries_of bs) (stored_parts_in bs)) (sym
+      ahead)
       ∙ p.marks
 
   pub rest_next : (y : Bridge) → drop (i + 1) (slice_set now i y) ≡ drop (i + 1) old
   rest_next y = drop-set-lt (i + 1) now i y (omega arith) ∙ sym others
 
   known_next : (y : Bridge) (lss : List (List TreeTrace))
-      → LayersKnown sheller m (slice_index_or now i d).unit y.layers
+      → UnitLayersKnown sheller m (slice_index_or now i d).unit y.layers
       → AllLayersKnown sheller (behind m (outcome_of m (slice_index_or now i d).unit)) (units_in (drop (i + 1) old)) lss
       → AllLayersKnown sheller start (units_in old) (layers_in (take (i + 1) (slice_set now i y)) ++ lss)
   unfolding b
@@ -274,14 +278,14 @@ module _ (sheller : Sheller) (old now : List Bridge) (spares : Spares) (start : 
       → IsBrought sheller (slice_index_or now i d) y m
       → flags_of_parts y.parts
       ≡ part_flags_by sheller m (slice_index_or now i d).unit (kept_parts (slice_index_or now i d).parts)
-      → y.renewed ≡ not (unit_stays_by sheller m (entry_of (slice_index_or now i d))
+      → y.renewed ≡ not (unit_stays_by sheller m (kept_unit (slice_index_or now i d))
       (kept_parts (slice_index_or now i d).parts))
       → m1 ≡ behind m (outcome_of m (slice_index_or now i d).unit)
-      → charge ≡ charge_by sheller m (entry_of (slice_index_or now i d)) (kept_parts (slice_index_or now i d).parts)
+      → charge ≡ charge_by sheller m (kept_unit (slice_index_or now i d)) (kept_parts (slice_index_or now i d).parts)
       (slice_index_or now i d).layers (first_spare (drop i spares))
-      → LayersKnown sheller m (slice_index_or now i d).unit y.layers
+      → UnitLayersKnown sheller m (slice_index_or now i d).unit y.layers
       → after1 ≡ after + charge → charge + m1.left ≤ m.left
-      → IsSound y
+      → IsSoundBridge y
       → (y.renewed ≡ false → wide_outcome y.kept ≡ wide_outcome (slice_index_or now i d).kept)
       → (y.renewed ≡ false → kept_parts y.parts ≡ kept_parts (slice_index_or now i d).parts)
       → y.source ≡ (slice_index_or now i d).source
@@ -300,51 +304,60 @@ module _ (sheller : Sheller) (old now : List Bridge) (spares : Spares) (start : 
             ap (λ n. entries_of (take (i + 1) (slice_set now i y)) ++ fresh_from n (units_in (drop (i + 1) old))) is_m
             ∙ front_next y brought;
         parts =
-            ap (λ n. parts_in (take (i + 1) (slice_set now i y)) ++ fresh_parts_by_from sheller n (units_in (drop
+            ap (λ n. stored_parts_in (take (i + 1) (slice_set now i y)) ++ fresh_parts_by_from sheller n (units_in (drop
             (i + 1) old)))
             is_m
             ∙ parts_next y brought;
         marks =
             ap (λ n. part_flags_in (take (i + 1) (slice_set now i y))
-            ++ part_flags_by_from sheller n (entries_of (drop (i + 1) old)) (parts_in (drop (i + 1) old))) is_m
+            ++ part_flags_by_from sheller n (entries_of (drop (i + 1) old)) (stored_parts_in (drop (i + 1) old))) is_m
             ∙ marks_next y mark;
         rest = rest_next y;
         flags =
-            ap (λ bs. flags_of bs ++ reached_by_from sheller m1 (entries_of (drop (i + 1) old)) (parts_in (drop
+            ap (λ bs. flags_of bs ++ reached_by_from sheller m1 (entries_of (drop (i + 1) old)) (stored_parts_in (drop
             (i + 1) old))) (more_taken y)
-            ∙ ap (λ fs. fs ++ reached_by_from sheller m1 (entries_of (drop (i + 1) old)) (parts_in (drop (i + 1) old)))
+            ∙ ap (λ fs. fs ++ reached_by_from sheller m1 (entries_of (drop (i + 1) old)) (stored_parts_in (drop (i
+            + 1) old)))
             (map-append (λ (w : Bridge). w.renewed) (take i now) (y ∷ []))
             ∙ append_assoc (flags_of (take i now)) (y.renewed ∷ []) (reached_by_from sheller m1 (entries_of (drop
-            (i + 1) old)) (parts_in (drop (i + 1) old)))
+            (i + 1) old)) (stored_parts_in (drop (i + 1) old)))
             ∙ ap (λ n. flags_of (take i now) ++ y.renewed ∷ reached_by_from sheller n (entries_of (drop (i + 1) old))
-            (parts_in (drop (i + 1) old))) is_m
+            (stored_parts_in (drop (i + 1) old))) is_m
             ∙ ap (λ r. flags_of (take i now)
-            ++ r ∷ reached_by_from sheller (behind m (outcome_of m b.unit)) (entries_of (drop (i + 1) old)) (parts_in
+            ++ r ∷ reached_by_from sheller (behind m (outcome_of m b.unit)) (entries_of (drop (i
+            + 1) old)) (stored_parts_in
             (drop (i + 1) old))) is_r
-            ∙ ap (λ bs. flags_of (take i now) ++ reached_by_from sheller m (entries_of bs) (parts_in bs)) (sym ahead)
+            ∙ ap (λ bs. flags_of (take i now) ++ reached_by_from sheller m (entries_of bs) (stored_parts_in bs)) (sym
+            ahead)
             ∙ p.flags;
         steps =
             let rest : List Bridge = drop (i + 1) old in
-            let more : charges_by sheller m (entries_of (drop i old)) (parts_in (drop i old)) (layers_in (drop i old))
+            let more : charges_by sheller m (entries_of (drop i old)) (stored_parts_in (drop i old)) (layers_in (drop i
+            old))
             (drop i spares)
-            ≡ charge_by sheller m (entry_of b) (kept_parts b.parts) b.layers (first_spare (drop i spares))
-            + charges_by sheller (behind m (outcome_of m b.unit)) (entries_of rest) (parts_in rest) (layers_in rest)
+            ≡ charge_by sheller m (kept_unit b) (kept_parts b.parts) b.layers (first_spare (drop i spares))
+            + charges_by sheller (behind m (outcome_of m b.unit)) (entries_of rest) (stored_parts_in rest) (layers_in
+            rest)
             (drop 1 (drop i spares)) =
-            ap (λ bs. charges_by sheller m (entries_of bs) (parts_in bs) (layers_in bs) (drop i spares)) ahead in
-            let moved : charges_by sheller m1 (entries_of rest) (parts_in rest) (layers_in rest) (drop (i + 1) spares)
-            ≡ charges_by sheller (behind m (outcome_of m b.unit)) (entries_of rest) (parts_in rest) (layers_in rest)
+            ap (λ bs. charges_by sheller m (entries_of bs) (stored_parts_in bs) (layers_in bs) (drop i spares)) ahead in
+            let moved : charges_by sheller m1 (entries_of rest) (stored_parts_in rest) (layers_in rest) (drop (i
+            + 1) spares)
+            ≡ charges_by sheller (behind m (outcome_of m b.unit)) (entries_of rest) (stored_parts_in rest) (layers_in
+            rest)
             (drop 1 (drop i spares)) =
-            ap (λ n. charges_by sheller n (entries_of rest) (parts_in rest) (layers_in rest) (drop (i + 1) spares)) is_m
-            ∙ ap (charges_by sheller (behind m (outcome_of m b.unit)) (entries_of rest) (parts_in rest)
+            ap (λ n. charges_by sheller n (entries_of rest) (stored_parts_in rest) (layers_in rest) (drop (i
+            + 1) spares)) is_m
+            ∙ ap (charges_by sheller (behind m (outcome_of m b.unit)) (entries_of rest) (stored_parts_in rest)
             (layers_in rest))
             (sym (drop-drop 1 i spares)) in
-            let was : after + charges_by sheller m (entries_of (drop i old)) (parts_in (drop i old))
+            let was : after + charges_by sheller m (entries_of (drop i old)) (stored_parts_in (drop i old))
             (layers_in (drop i old)) (drop i spares)
-            ≡ before + charges_by sheller start (entries_of old) (parts_in old) (layers_in old) spares = p.steps in
+            ≡ before + charges_by sheller start (entries_of old) (stored_parts_in old) (layers_in old) spares = p.steps
+            in
             omega (arith, more, moved, was, is_charge, is_after);
         known = λ lss left. known_next y lss known
             (subst (λ n. AllLayersKnown sheller n (units_in (drop (i + 1) old)) lss) is_m left);
-        sound = All-set IsSound now i y sound p.sound;
+        sound = All-set IsSoundBridge now i y sound p.sound;
         units = units_next y brought.unit;
         sources = sources_next y source;
         stays = stays_next y brought.unit kept;
@@ -355,11 +368,11 @@ module _ (sheller : Sheller) (old now : List Bridge) (spares : Spares) (start : 
 abbrev pub Stops : Sheller → Moment → List Bridge → List Bridge → Type 0
 Stops sheller start old now =
     (n : ℕ) × (entries_of now ≡ take n (fresh_from start (units_in old)) ++ drop n (entries_of old))
-    × (parts_in now ≡ take n (fresh_parts_by_from sheller start (units_in old)) ++ drop n (parts_in old))
+    × (stored_parts_in now ≡ take n (fresh_parts_by_from sheller start (units_in old)) ++ drop n (stored_parts_in old))
     × (drop n (layers_in now) ≡ drop n (layers_in old))
 
 map_take : (n : ℕ) (bs : List Bridge) → length (entries_of (take n bs)) ≡ length (take n bs)
-map_take n bs = length-map (take n bs) entry_of
+map_take n bs = length-map (take n bs) kept_unit
 
 drop_entries : (n : ℕ) (bs : List Bridge) → entries_of (drop n bs) ≡ drop n (entries_of bs)
 drop_entries zero bs = refl
@@ -374,14 +387,14 @@ stopped : (start : Moment) (old now : List Bridge) (i : ℕ) (m : Moment)
 stopped start old now i m fresh rest inside =
     let many : length (take i now) ≡ i = grind (arith, common_steps, inside) in
     ap entries_of (sym (take-append-drop i now))
-    ∙ map-append entry_of (take i now) (drop i now)
+    ∙ map-append kept_unit (take i now) (drop i now)
     ∙ ap (λ es. es ++ entries_of (drop i now))
     (sym (take_at (entries_of (take i now)) (fresh_from m (units_in (drop i old))) i (map_take i now ∙ many))
     ∙ ap (take i) fresh)
     ∙ ap (λ bs. take i (fresh_from start (units_in old)) ++ entries_of bs) rest
     ∙ ap (λ es. take i (fresh_from start (units_in old)) ++ es) (drop_entries i old)
 
-drop_parts : (n : ℕ) (bs : List Bridge) → parts_in (drop n bs) ≡ drop n (parts_in bs)
+drop_parts : (n : ℕ) (bs : List Bridge) → stored_parts_in (drop n bs) ≡ drop n (stored_parts_in bs)
 drop_parts zero bs = refl
 drop_parts (suc n) [] = refl
 drop_parts (suc n) (b ∷ bs) = drop_parts n bs
@@ -396,20 +409,20 @@ layers_stopped : (old now : List Bridge) (i : ℕ) → drop i now ≡ drop i old
 layers_stopped old now i rest = sym (drop_layers i now) ∙ ap layers_in rest ∙ drop_layers i old
 
 parts_stopped : (sheller : Sheller) (start : Moment) (old now : List Bridge) (i : ℕ) (m : Moment)
-    → parts_in (take i now) ++ fresh_parts_by_from sheller m (units_in (drop i old))
+    → stored_parts_in (take i now) ++ fresh_parts_by_from sheller m (units_in (drop i old))
     ≡ fresh_parts_by_from sheller start (units_in old)
     → drop i now ≡ drop i old → i ≤ length now
-    → parts_in now ≡ take i (fresh_parts_by_from sheller start (units_in old)) ++ drop i (parts_in old)
+    → stored_parts_in now ≡ take i (fresh_parts_by_from sheller start (units_in old)) ++ drop i (stored_parts_in old)
 parts_stopped sheller start old now i m fresh rest inside =
     let many : length (take i now) ≡ i = grind (arith, common_steps, inside) in
     let one : Bridge → KeptParts = λ w. kept_parts w.parts in
-    ap parts_in (sym (take-append-drop i now))
+    ap stored_parts_in (sym (take-append-drop i now))
     ∙ map-append one (take i now) (drop i now)
-    ∙ ap (λ ks. ks ++ parts_in (drop i now))
-    (sym (take_at (parts_in (take i now)) (fresh_parts_by_from sheller m (units_in (drop i old))) i
+    ∙ ap (λ ks. ks ++ stored_parts_in (drop i now))
+    (sym (take_at (stored_parts_in (take i now)) (fresh_parts_by_from sheller m (units_in (drop i old))) i
     (length-map (take i now) one ∙ many))
     ∙ ap (take i) fresh)
-    ∙ ap (λ bs. take i (fresh_parts_by_from sheller start (units_in old)) ++ parts_in bs) rest
+    ∙ ap (λ bs. take i (fresh_parts_by_from sheller start (units_in old)) ++ stored_parts_in bs) rest
     ∙ ap (λ ks. take i (fresh_parts_by_from sheller start (units_in old)) ++ ks) (drop_parts i old)
 
 -- the refresh of unit i failed, before or behind its evaluation
@@ -424,7 +437,7 @@ stops sheller old now spares start i m flag before after spent p inside d y unit
   i,
   ap entries_of (ap (slice_set now i) same ∙ set-get_or now i d)
       ∙ stopped start old now i m p.fresh p.rest (omega arith),
-  ap parts_in (ap (slice_set now i) same ∙ set-get_or now i d)
+  ap stored_parts_in (ap (slice_set now i) same ∙ set-get_or now i d)
       ∙ parts_stopped sheller start old now i m p.parts p.rest (omega arith),
   ap (λ bs. drop i (layers_in bs)) (ap (slice_set now i) same ∙ set-get_or now i d) ∙ layers_stopped old now i p.rest,
 )
@@ -449,31 +462,33 @@ pub ended : (sheller : Sheller) (old now : List Bridge) (spares : Spares) (start
     (flag : Bool)
     (before after spent : ℕ) → Partway sheller old now spares start i m flag before after spent → length now ≤ i
     → (entries_of now ≡ fresh_from start (units_in old)) × (flags_of now ≡ reached_by_from sheller start
-    (entries_of old) (parts_in old))
-    × (spent ≡ charges_by sheller start (entries_of old) (parts_in old) (layers_in old) spares)
-    × (parts_in now ≡ fresh_parts_by_from sheller start (units_in old))
-    × (part_flags_in now ≡ part_flags_by_from sheller start (entries_of old) (parts_in old))
+    (entries_of old) (stored_parts_in old))
+    × (spent ≡ charges_by sheller start (entries_of old) (stored_parts_in old) (layers_in old) spares)
+    × (stored_parts_in now ≡ fresh_parts_by_from sheller start (units_in old))
+    × (part_flags_in now ≡ part_flags_by_from sheller start (entries_of old) (stored_parts_in old))
     × AllLayersKnown sheller start (units_in old) (layers_in now)
 ended sheller old now spares start i m flag before after spent p past =
     let whole : take i now ≡ now = grind (arith, common_steps, past) in
     let none : drop i old ≡ [] = sym p.rest ∙ drop_all i now past in
-    let left : charges_by sheller m (entries_of (drop i old)) (parts_in (drop i old)) (layers_in (drop i old))
+    let left : charges_by sheller m (entries_of (drop i old)) (stored_parts_in (drop i old)) (layers_in (drop i old))
     (drop i spares) ≡ 0 =
-    ap (λ bs. charges_by sheller m (entries_of bs) (parts_in bs) (layers_in bs) (drop i spares)) none in
-    let sum : after + charges_by sheller m (entries_of (drop i old)) (parts_in (drop i old)) (layers_in (drop i old))
+    ap (λ bs. charges_by sheller m (entries_of bs) (stored_parts_in bs) (layers_in bs) (drop i spares)) none in
+    let sum : after + charges_by sheller m (entries_of (drop i old)) (stored_parts_in (drop i old)) (layers_in (drop i
+    old))
     (drop i spares)
-    ≡ before + charges_by sheller start (entries_of old) (parts_in old) (layers_in old) spares = p.steps in
+    ≡ before + charges_by sheller start (entries_of old) (stored_parts_in old) (layers_in old) spares = p.steps in
     let paid : after ≡ before + spent = p.paid in (
       sym (append-nil (entries_of now)) ∙ ap (λ bs. entries_of bs ++ []) (sym whole)
           ∙ ap (λ bs. entries_of (take i now) ++ fresh_from m (units_in bs)) (sym none) ∙ p.fresh,
       sym (append-nil (flags_of now)) ∙ ap (λ bs. flags_of bs ++ []) (sym whole)
-          ∙ ap (λ bs. flags_of (take i now) ++ reached_by_from sheller m (entries_of bs) (parts_in bs)) (sym none)
+          ∙ ap (λ bs. flags_of (take i now) ++ reached_by_from sheller m (entries_of bs) (stored_parts_in bs)) (sym
+          none)
           ∙ p.flags,
       omega (arith, left, sum, paid),
-      sym (append-nil (parts_in now)) ∙ ap (λ bs. parts_in bs ++ []) (sym whole)
-          ∙ ap (λ bs. parts_in (take i now) ++ fresh_parts_by_from sheller m (units_in bs)) (sym none) ∙ p.parts,
+      sym (append-nil (stored_parts_in now)) ∙ ap (λ bs. stored_parts_in bs ++ []) (sym whole)
+          ∙ ap (λ bs. stored_parts_in (take i now) ++ fresh_parts_by_from sheller m (units_in bs)) (sym none) ∙ p.parts,
       sym (append-nil (part_flags_in now)) ∙ ap (λ bs. part_flags_in bs ++ []) (sym whole)
-          ∙ ap (λ bs. part_flags_in (take i now) ++ part_flags_by_from sheller m (entries_of bs) (parts_in bs))
+          ∙ ap (λ bs. part_flags_in (take i now) ++ part_flags_by_from sheller m (entries_of bs) (stored_parts_in bs))
           (sym none)
           ∙ p.marks,
       subst (AllLayersKnown sheller start (units_in old))

@@ -27,11 +27,11 @@ use Rattle.tx_bridge.specs.HeldParts.{kept_parts}
 use Rattle.tx_bridge.specs.Names.{PartMoves, CarryParts, CarryLayers, CarryStrays, IsCourse}
 use Rattle.tx_bridge.specs.PartMoves.{Move, AreMoves, part_moves, seen_move, arrived, parts_now, all_parts_now}
 use Rattle.tx_bridge.specs.PartsKept.{KeptParts}
-use Rattle.tx_bridge.specs.Slots.{AreApart, AreMoved, AllPlaced, bodies_of, fresh_bridge, given_all, paths_in}
-use Rattle.tx_bridge.specs.Sound.{IsSound, AreRight, entries_of, parts_in, layers_in, sources_in}
+use Rattle.tx_bridge.specs.Slots.{HaveOwnPaths, AreMoved, AllPlaced, bodies_of, fresh_bridge, given_all, paths_in}
+use Rattle.tx_bridge.specs.Sound.{IsSoundBridge, AreRight, entries_of, stored_parts_in, layers_in, sources_in}
 use Rattle.tx_bridge.specs.Strays.{Stray, kept_strays, HoldsStray, AreStrays, StandAside, strays_in, AreTidy}
 use Rattle.tx_bridge.specs.declared.strays.Stray.{Stray as DoneStray}
-use Rattle.tx_bridge.specs.UnitLists.{AreUnits, IsPlaced}
+use Rattle.tx_bridge.specs.UnitLists.{AreUnits, HasPathIfBody}
 use Rattle.tx_bridge.proofs.Arrived.{units_bodies, moved_all, carried_sound}
 use Rattle.tx_bridge.proofs.Comers.{AllHoldParts, AllOutside, HoldAside, arrived_hold, kept_arrived, left_distinct}
 use Rattle.tx_bridge.proofs.Comers.{left_outside}
@@ -70,19 +70,20 @@ unit_at (u ∷ us) (x ∷ ws) zero w h e =
     ap (λ v. Some v) (sym h.0.0) ∙ ap (λ (b : Bridge). Some b.unit) same
 unit_at (u ∷ us) (x ∷ ws) (suc k) w h e = unit_at us ws k w h.1 e
 
-pub coming_apart : (ms : List PartMove) (us : List DocUnit) → NoneBegins us → AreApart (coming ms us)
+pub coming_apart : (ms : List PartMove) (us : List DocUnit) → NoneBegins us → HaveOwnPaths (coming ms us)
 coming_apart ms us apart j k v w p at_j at_k is_v is_w =
     let whole : p ++ [] ≡ p = append-nil p in
     one_above us j k v.unit w.unit (p ++ []) [] [] apart (unit_at us (coming ms us) j v (coming_bare ms us) at_j)
     (unit_at us (coming ms us) k w (coming_bare ms us) at_k) (in_rest v.unit p [] is_v) (in_rest w.unit p [] is_w)
 
-each_placed : (us : List DocUnit) (k : ℕ) (u : DocUnit) → AllByRecursion IsPlaced us → slice_get us k ≡ Some u
-    → IsPlaced u
+each_placed : (us : List DocUnit) (k : ℕ) (u : DocUnit) → AllByRecursion HasPathIfBody us → slice_get us k ≡ Some u
+    → HasPathIfBody u
 each_placed [] k u h e = cc
-each_placed (v ∷ us) zero u h e = let same : v ≡ u = cc in subst IsPlaced same h.0
+each_placed (v ∷ us) zero u h e = let same : v ≡ u = cc in subst HasPathIfBody same h.0
 each_placed (v ∷ us) (suc k) u h e = each_placed us k u h.1 e
 
-pub coming_placed : (ms : List PartMove) (us : List DocUnit) → AllByRecursion IsPlaced us → AllPlaced (coming ms us)
+pub coming_placed : (ms : List PartMove) (us : List DocUnit) → AllByRecursion HasPathIfBody us
+    → AllPlaced (coming ms us)
 coming_placed ms us placed k b at =
     each_placed us k b.unit placed (unit_at us (coming ms us) k b (coming_bare ms us) at)
 
@@ -118,34 +119,34 @@ kept_of_one : Bridge → KeptParts
 kept_of_one b = kept_parts b.parts
 
 parts_found : (bs : List Bridge) (moves : List Move) (j n k : ℕ) (b : Bridge) → n ≡ 0 + k → slice_get bs k ≡ Some b
-    → parts_now (parts_in bs) moves j (Some n) ≡ kept_parts b.parts
+    → parts_now (stored_parts_in bs) moves j (Some n) ≡ kept_parts b.parts
 parts_found bs moves j n k b e at =
     let same : n ≡ k = omega (arith, e) in
-    ap (λ i. parts_now (parts_in bs) moves j (Some i)) same
+    ap (λ i. parts_now (stored_parts_in bs) moves j (Some i)) same
     ∙ ap (λ o. option_map_or (λ ks. ks) o []) (slice_get-map parts_in_one bs k ∙ ap (option_map parts_in_one) at)
 
 all_parts : (ps : List PartMove) (qs : List (Option (List ℕ))) (bs : List Bridge) (j : ℕ) (us : List DocUnit)
     → all_got (λ i b. kept_parts b.parts) parts_in_one 0 qs bs j (with_arrived ps j (map fresh_bridge us))
-    ≡ all_parts_now (parts_in bs) (map seen_move ps) j
+    ≡ all_parts_now (stored_parts_in bs) (map seen_move ps) j
     (all_got number_given source_in 0 qs bs j (with_arrived ps j (map fresh_bridge us)))
 all_parts ps qs bs j [] = refl
 all_parts ps qs bs j (u ∷ us) =
     ap (λ x. x ∷ all_got (λ i b. kept_parts b.parts) parts_in_one 0 qs bs (j + 1)
     (with_arrived ps (j + 1) (map fresh_bridge us)))
     (ap (got (λ i b. kept_parts b.parts) 0 qs bs j u) (kept_arrived ps j)
-    ∙ got_found parts_in_one (parts_now (parts_in bs) (map seen_move ps) j) 0 qs bs j u None
+    ∙ got_found parts_in_one (parts_now (stored_parts_in bs) (map seen_move ps) j) 0 qs bs j u None
     (parts_found bs (map seen_move ps) j))
-    ∙ ap (λ xs. parts_now (parts_in bs) (map seen_move ps) j (got number_given 0 qs bs j u None) ∷ xs)
+    ∙ ap (λ xs. parts_now (stored_parts_in bs) (map seen_move ps) j (got number_given 0 qs bs j u None) ∷ xs)
     (all_parts ps qs bs (j + 1) us)
 
 pub given_parts : (ps : List PartMove) (ms : List Mod) (t : WideTree) (old : List Bridge) (us : List DocUnit)
-    → parts_in (given_with ps ms t old us)
-    ≡ all_parts_now (parts_in old) (map seen_move ps) 0 (sources_in (given_with ps ms t old us))
+    → stored_parts_in (given_with ps ms t old us)
+    ≡ all_parts_now (stored_parts_in old) (map seen_move ps) 0 (sources_in (given_with ps ms t old us))
 given_parts ps ms t old us =
     given_got (λ i b. kept_parts b.parts) parts_in_one (λ i b w. refl) 0 (map (through ms t) (paths_in old)) old
     (coming ps us)
     ∙ all_parts ps (map (through ms t) (paths_in old)) old 0 us
-    ∙ ap (all_parts_now (parts_in old) (map seen_move ps) 0)
+    ∙ ap (all_parts_now (stored_parts_in old) (map seen_move ps) 0)
     (sym (given_got number_given source_in (λ i b w. refl) 0 (map (through ms t) (paths_in old)) old (coming ps us)))
 
 -- ---- what is kept of layers
@@ -190,8 +191,8 @@ received_layers ps ms t lss us old result had is =
 
 -- ---- what has come holds
 
-held_parts : (ms : List Mod) (t : WideTree) (vs : List DocUnit) (bs : List Bridge) → AllByRecursion IsSound bs
-    → AllHoldParts ms t vs (bodies_of bs) (parts_in bs)
+held_parts : (ms : List Mod) (t : WideTree) (vs : List DocUnit) (bs : List Bridge) → AllByRecursion IsSoundBridge bs
+    → AllHoldParts ms t vs (bodies_of bs) (stored_parts_in bs)
 held_parts ms t vs [] h = tt
 held_parts ms t vs (b ∷ bs) h = (
   (
@@ -203,11 +204,11 @@ held_parts ms t vs (b ∷ bs) h = (
 
 -- of the unit of number j
 Fits : List PartMove → ℕ → DocUnit → Type 0
-Fits ps j u = IsSound (joined_by (arrived_parts ps j) (fresh_bridge u))
+Fits ps j u = IsSoundBridge (joined_by (arrived_parts ps j) (fresh_bridge u))
 
 coming_each : (ps : List PartMove) (j : ℕ) (us : List DocUnit)
     → ((k n : ℕ) (u : DocUnit) → n ≡ j + k → slice_get us k ≡ Some u → Fits ps n u)
-    → AllByRecursion IsSound (with_arrived ps j (map fresh_bridge us))
+    → AllByRecursion IsSoundBridge (with_arrived ps j (map fresh_bridge us))
 unfolding Fits
 coming_each ps j [] h = tt
 coming_each ps j (u ∷ us) h = (
@@ -215,12 +216,17 @@ coming_each ps j (u ∷ us) h = (
   coming_each ps (j + 1) us (λ k n v e at. h (suc k) n v (omega (arith, e)) at),
 )
 
-none_comes : (ps : List PartMove) (us : List DocUnit) → AllByRecursion IsPlaced us
+none_comes : (ps : List PartMove) (us : List DocUnit) → AllByRecursion HasPathIfBody us
     → ((n : ℕ) → n < length us → arrived_parts ps n ≡ [])
     → (k n : ℕ) (u : DocUnit) → n ≡ 0 + k → slice_get us k ≡ Some u → Fits ps n u
 unfolding Fits
 none_comes ps us placed none k n u e at =
-    subst (λ qs. IsSound (joined_by qs (fresh_bridge u))) (sym (none n (omega (arith, e, slice_get_within us k u at))))
+    subst (λ qs. IsSoundBridge (joined_by qs (fresh_bridge u))) (sym (none n (omega (
+      arith,
+      e,
+      slice_get_within us k u
+          at,
+    ))))
     (record { holds = tt; once = tt; placed = each_placed us k u placed at; parts = no_parts false u })
 
 no_parts_kept : (ps : List DonePart) → kept_parts ps ≡ [] → ps ≡ []
@@ -237,15 +243,15 @@ some_come : (ms : List Mod) (t w : WideTree) (old : List Bridge) (us : List DocU
     (ps : List PartMove)
     → ((q : List ℕ) → CarriesThroughAll ms t q) → ((m : Mod) (s : WideTree) (q : List ℕ) → CarriesSubtree m s q)
     → changed_by_all ms t ≡ Some w → AllStand t (bodies_of old) → NoneBegins (bodies_of old)
-    → AllByRecursion IsSound old → HoldAside t (bodies_of old) ks
-    → AreMoves (part_moves 0 ms t (bodies_of old) (parts_in old) ks us) ps
-    → AllStand w us → AllByRecursion IsPlaced us
+    → AllByRecursion IsSoundBridge old → HoldAside t (bodies_of old) ks
+    → AreMoves (part_moves 0 ms t (bodies_of old) (stored_parts_in old) ks us) ps
+    → AllStand w us → AllByRecursion HasPathIfBody us
     → (k n : ℕ) (u : DocUnit) → n ≡ 0 + k → slice_get us k ≡ Some u → Fits ps n u
 unfolding Fits
 some_come ms t w old us ks ps through_all law made stand apart sound aside moves now placed k n u e at =
     let here : slice_get us n ≡ Some u = let same : n ≡ k = omega (arith, e) in ap (slice_get us) same ∙ at in
     let hold =
-    arrived_hold ms t w (bodies_of old) us (parts_in old) ks through_all law made stand apart
+    arrived_hold ms t w (bodies_of old) us (stored_parts_in old) ks through_all law made stand apart
     (held_parts ms t us old sound) aside ps moves.all moves.tidy n u here (stands_at w us k u now at) in
     record {
       holds = tt;
@@ -257,15 +263,15 @@ some_come ms t w old us ks ps through_all law made stand apart sound aside moves
 coming_fits : (buffer : ℕ) (ms : List Mod) (t : WideTree) (old : List Bridge) (us : List DocUnit) (ks : KeptParts)
     (ps : List PartMove) → ((u : WideTree) × (changed_by_all ms t ≡ Some u))
     → ((q : List ℕ) → CarriesThroughAll ms t q) → ((m : Mod) (s : WideTree) (q : List ℕ) → CarriesSubtree m s q)
-    → All IsSound old → NoneBegins (bodies_of old) → AllByRecursion IsPlaced us
+    → All IsSoundBridge old → NoneBegins (bodies_of old) → AllByRecursion HasPathIfBody us
     → (buffer ≡ 0 → AllStand t (bodies_of old))
     → (buffer ≡ 0 → (u : WideTree) → changed_by_all ms t ≡ Some u → AllStand u us)
     → (buffer ≡ 0 → HoldAside t (bodies_of old) ks)
-    → AreMoves (part_moves buffer ms t (bodies_of old) (parts_in old) ks us) ps
+    → AreMoves (part_moves buffer ms t (bodies_of old) (stored_parts_in old) ks us) ps
     → (k n : ℕ) (u : DocUnit) → n ≡ 0 + k → slice_get us k ≡ Some u → Fits ps n u
 coming_fits zero ms t old us ks ps made through_all law sound apart placed stand_old stand_new aside moves =
     some_come ms t made.0 old us ks ps through_all law made.1 (stand_old refl) apart
-    (recursion_from_All IsSound old sound) (aside refl) moves (stand_new refl made.0 made.1) placed
+    (recursion_from_All IsSoundBridge old sound) (aside refl) moves (stand_new refl made.0 made.1) placed
 coming_fits (suc buffer) ms t old us ks ps made through_all law sound apart placed stand_old stand_new aside moves =
     none_comes ps us placed
     (λ n less. no_parts_kept (arrived_parts ps n)
@@ -275,7 +281,7 @@ coming_fits (suc buffer) ms t old us ks ps made through_all law sound apart plac
 
 module _ (buffer : ℕ) (ms : List Mod) (t : WideTree) (kept : Kept) (pss : List KeptParts) (ss : List Stray)
     (us : List DocUnit) (old : List Bridge) (flag : Bool) (was : List DoneStray) (c : Course)
-    (is_kept : entries_of old ≡ kept) (is_parts : parts_in old ≡ pss) (is_strays : strays_in was ≡ ss)
+    (is_kept : entries_of old ≡ kept) (is_parts : stored_parts_in old ≡ pss) (is_strays : strays_in was ≡ ss)
     (right : AreRight flag old was) (applies : (u : WideTree) × (changed_by_all ms t ≡ Some u))
     (through_all : (q : List ℕ) → CarriesThroughAll ms t q)
     (law : (m : Mod) (s : WideTree) (q : List ℕ) → CarriesSubtree m s q)
@@ -298,7 +304,7 @@ module _ (buffer : ℕ) (ms : List Mod) (t : WideTree) (kept : Kept) (pss : List
   aside : buffer ≡ 0 → HoldAside t (bodies_of old) (kept_strays ss)
   aside e = hold_aside t (bodies_of old) ss strays_hold (stand_aside e)
 
-  moves : AreMoves (part_moves buffer ms t (bodies_of old) (parts_in old) (kept_strays ss) us) c.moves.items
+  moves : AreMoves (part_moves buffer ms t (bodies_of old) (stored_parts_in old) (kept_strays ss) us) c.moves.items
   unfolding PartMoves
   moves =
       subst (λ qs. AreMoves (part_moves buffer ms t (bodies_of old) qs (kept_strays ss) us) c.moves.items)
@@ -308,12 +314,12 @@ module _ (buffer : ℕ) (ms : List Mod) (t : WideTree) (kept : Kept) (pss : List
   pub received_sound : (result : List Bridge) → AreUnits us
       → (buffer ≡ 0 → (u : WideTree) → changed_by_all ms t ≡ Some u → AllStand u us)
       → ((buffer ≡ 0 → ⊥) → AreSameBodies (units_of kept) us)
-      → result ≡ given_with c.moves.items (mods_of buffer ms) t old us → All IsSound result
+      → result ≡ given_with c.moves.items (mods_of buffer ms) t old us → All IsSoundBridge result
   received_sound result are stand_new same is =
-      subst (All IsSound) (sym is)
+      subst (All IsSoundBridge) (sym is)
       (carried_sound buffer ms t old (coming c.moves.items us) us applies through_all right.sound
       (bare_bodies us (coming c.moves.items us) (coming_bare c.moves.items us))
-      (All-from_recursion IsSound (coming c.moves.items us)
+      (All-from_recursion IsSoundBridge (coming c.moves.items us)
       (coming_each c.moves.items 0 us
       (coming_fits buffer ms t old us (kept_strays ss) c.moves.items applies through_all law right.sound apart_old
       are.placed bodies_stand stand_new aside moves)))
@@ -325,21 +331,21 @@ module _ (buffer : ℕ) (ms : List Mod) (t : WideTree) (kept : Kept) (pss : List
   left_hold = hold_left (MayFollow buffer ms t ss) (length us) c.moves.items course.trees
 
   left_kept : kept_strays (strays_in (strays_left c.moves.items (length us)))
-      ≡ arrived (part_moves buffer ms t (bodies_of old) (parts_in old) (kept_strays ss) us) (length us)
+      ≡ arrived (part_moves buffer ms t (bodies_of old) (stored_parts_in old) (kept_strays ss) us) (length us)
   left_kept = kept_left c.moves.items (length us) ∙ ap (λ xs. arrived xs (length us)) moves.all
 
   abbrev now_left : ℕ → KeptParts
-  now_left b = arrived (part_moves b ms t (bodies_of old) (parts_in old) (kept_strays ss) us) (length us)
+  now_left b = arrived (part_moves b ms t (bodies_of old) (stored_parts_in old) (kept_strays ss) us) (length us)
 
   abbrev AreApartNow : ℕ → Type 0
   AreApartNow b = IsDistinct bytes_eq (part_paths (now_left b)) × AllOutside us (now_left b)
 
   apart_now : (b : ℕ) → buffer ≡ b → AreApartNow b
   apart_now zero e =
-      let hold = held_parts ms t us old (recursion_from_All IsSound old right.sound) in (
-        left_distinct ms t applies.0 (bodies_of old) us (parts_in old) (kept_strays ss) through_all law applies.1
+      let hold = held_parts ms t us old (recursion_from_All IsSoundBridge old right.sound) in (
+        left_distinct ms t applies.0 (bodies_of old) us (stored_parts_in old) (kept_strays ss) through_all law applies.1
             (bodies_stand e) apart_old hold (aside e),
-        left_outside ms t applies.0 (bodies_of old) us (parts_in old) (kept_strays ss) through_all law applies.1
+        left_outside ms t applies.0 (bodies_of old) us (stored_parts_in old) (kept_strays ss) through_all law applies.1
             (bodies_stand e) apart_old hold (aside e),
       )
   apart_now (suc b) e = (
@@ -385,16 +391,16 @@ behind_other zero ms t ss u e stand = absurd (e refl)
 behind_other (suc buffer) ms t ss u e stand = stand
 
 pub received_parts : (buffer : ℕ) (ms : List Mod) (t : WideTree) (kept : Kept) (pss : List KeptParts)
-    (ss : List Stray) (us : List DocUnit) (old result : List Bridge) (c : Course) → parts_in old ≡ pss
+    (ss : List Stray) (us : List DocUnit) (old result : List Bridge) (c : Course) → stored_parts_in old ≡ pss
     → IsCourse buffer ms t (units_of kept) pss ss us c
     → result ≡ given_with c.moves.items (mods_of buffer ms) t old us
-    → parts_in result
+    → stored_parts_in result
     ≡ CarryParts pss (PartMoves buffer ms t (units_of kept) pss (kept_strays ss) us) (sources_in result)
 unfolding CarryParts
 received_parts buffer ms t kept pss ss us old result c had course is =
-    ap parts_in is ∙ given_parts c.moves.items (mods_of buffer ms) t old us
-    ∙ ap (λ bs. all_parts_now (parts_in old) (map seen_move c.moves.items) 0 (sources_in bs)) (sym is)
-    ∙ ap (λ ms2. all_parts_now (parts_in old) ms2 0 (sources_in result)) course.moves.all
+    ap stored_parts_in is ∙ given_parts c.moves.items (mods_of buffer ms) t old us
+    ∙ ap (λ bs. all_parts_now (stored_parts_in old) (map seen_move c.moves.items) 0 (sources_in bs)) (sym is)
+    ∙ ap (λ ms2. all_parts_now (stored_parts_in old) ms2 0 (sources_in result)) course.moves.all
     ∙ ap (λ qs. all_parts_now qs (PartMoves buffer ms t (units_of kept) pss (kept_strays ss) us) 0
     (sources_in result)) had
 
@@ -411,9 +417,9 @@ all_ok (Err y) P Q R S f p q h = tt
 
 pub is_course : (buffer : ℕ) (ms : List Mod) (t : WideTree) (kept : Kept) (pss : List KeptParts) (ss : List Stray)
     (vs : List DocUnit) (old read : List Bridge) (aside : List DoneStray) (c : Course) → entries_of old ≡ kept
-    → parts_in old ≡ pss → read ≡ old → strays_in aside ≡ ss
+    → stored_parts_in old ≡ pss → read ≡ old → strays_in aside ≡ ss
     → c.places.items ≡ map (through (mods_of buffer ms) t) (paths_in read)
-    → AreMoves (part_moves buffer ms t (bodies_of read) (parts_in read) (kept_strays (strays_in aside)) vs)
+    → AreMoves (part_moves buffer ms t (bodies_of read) (stored_parts_in read) (kept_strays (strays_in aside)) vs)
     c.moves.items
     → All (HasTree (MayFollow buffer ms t (strays_in aside)) (length vs)) c.moves.items
     → IsCourse buffer ms t (units_of kept) pss ss vs c
@@ -425,8 +431,8 @@ is_course buffer ms t kept pss ss vs old read aside c was had is seen places mov
   moves =
       subst (λ xs. AreMoves (part_moves buffer ms t (units_of kept) pss (kept_strays xs) vs) c.moves.items) seen
       (subst (λ qs. AreMoves (part_moves buffer ms t (units_of kept) qs (kept_strays (strays_in aside)) vs)
-      c.moves.items) (ap parts_in is ∙ had)
-      (subst (λ us. AreMoves (part_moves buffer ms t us (parts_in read) (kept_strays (strays_in aside)) vs)
+      c.moves.items) (ap stored_parts_in is ∙ had)
+      (subst (λ us. AreMoves (part_moves buffer ms t us (stored_parts_in read) (kept_strays (strays_in aside)) vs)
       c.moves.items) (bodies_kept kept old read was is) moves));
   trees = subst (λ xs. All (HasTree (MayFollow buffer ms t xs) (length vs)) c.moves.items) seen trees;
 }

@@ -15,7 +15,7 @@ use Rattle.tx_parts.specs.Opening.{Sheller}
 use Rattle.tx_bridge.specs.PartsKept.{KeptParts, fresh_parts_by_from}
 use Rattle.tx_walk.specs.LayerTraces.{TreeTrace}
 use Rattle.tx_bridge.specs.Settled.{AreSettled}
-use Rattle.tx_bridge.specs.Sound.{entries_of, parts_in, layers_in, flags_of}
+use Rattle.tx_bridge.specs.Sound.{entries_of, stored_parts_in, layers_in, flags_of}
 use Rattle.tx_bridge.proofs.Partway.{Stops}
 use Rattle.tx_bridge.proofs.Used.{AllAgree, fresh_settled}
 
@@ -32,19 +32,19 @@ stays_whole f items whole old olds is had h k flag =
 abbrev pub Refused : Sheller → Moment → Kept → List KeptParts → List (List TreeTrace) → List Bridge → Type 0
 Refused sheller start kept parts layers now =
     (n : ℕ) × (entries_of now ≡ take n (fresh_from start (units_of kept)) ++ drop n kept)
-    × (parts_in now ≡ take n (fresh_parts_by_from sheller start (units_of kept)) ++ drop n parts)
+    × (stored_parts_in now ≡ take n (fresh_parts_by_from sheller start (units_of kept)) ++ drop n parts)
     × (drop n (layers_in now) ≡ drop n layers)
 
 pub refused : (sheller : Sheller) (m start : Moment) (old items whole : List Bridge) (kept : Kept)
     (parts : List KeptParts) (layers : List (List TreeTrace)) → m ≡ start
-    → whole ≡ items → entries_of old ≡ kept → parts_in old ≡ parts → layers_in old ≡ layers
+    → whole ≡ items → entries_of old ≡ kept → stored_parts_in old ≡ parts → layers_in old ≡ layers
     → Stops sheller m old items → Refused sheller start kept parts layers whole
 refused sheller m start old items whole kept parts layers is same had were known h =
     subst (λ k. Refused sheller k kept parts layers whole) is
     (subst (Refused sheller m kept parts layers) (sym same)
     (subst (λ es. Refused sheller m es parts layers items) had
     (subst (λ pss. Refused sheller m (entries_of old) pss layers items) were
-    (subst (λ lss. Refused sheller m (entries_of old) (parts_in old) lss items) known h))))
+    (subst (λ lss. Refused sheller m (entries_of old) (stored_parts_in old) lss items) known h))))
 
 -- without names the refresh begins with none set, and leaves what settles in itself
 none_set : (m : Moment) (start : List (Name × WideTree)) → m ≡ beginning_with start → length start ≡ 0

@@ -17,7 +17,7 @@ use Rattle.tx_exec_form.specs.Laws.{Agrees, Supports}
 use Rattle.tx_parts.specs.Composed.{alone, evaluates}
 use Rattle.tx_parts.specs.Opening.{Sheller}
 use Rattle.tx_parts.specs.Shellers.{IsSheller}
-use Rattle.tx_parts.specs.Parts.{Part, HasTrace, parts_by, part_trace, Stored, stored}
+use Rattle.tx_parts.specs.Parts.{Part, HasTrace, parts_by, part_trace, Stored, stored_part}
 use Rattle.tx_parts.specs.Standing.{StandsIn}
 use Rattle.tx_walk.specs.declared.part.Part.{Part as DonePart}
 use Rattle.tx_walk.specs.Held.{IsSound as ServesTree, fits, serves}
@@ -30,8 +30,8 @@ use Rattle.tx_bridge.specs.Entries.{units_of, outcome_of}
 use Rattle.tx_bridge.specs.PartsKept.{KeptParts, kept_at, has_parts, unit_parts_by, parts_if_done, fresh_parts_by}
 use Rattle.tx_bridge.specs.PartsKept.{fresh_parts_by_from, flags_if_done, part_flags_by, part_flags_by_from, PartsStay}
 use Rattle.tx_bridge.specs.HeldParts.{HoldsPart, kept_parts}
-use Rattle.tx_bridge.specs.Sound.{IsSound, entries_of, parts_in, part_flags_in}
-use Rattle.tx_bridge.specs.UnitLists.{IsPlaced}
+use Rattle.tx_bridge.specs.Sound.{IsSoundBridge, entries_of, stored_parts_in, part_flags_in}
+use Rattle.tx_bridge.specs.UnitLists.{HasPathIfBody}
 use Rattle.tx_bridge.proofs.ByParts.{AllStandIn, sound_of, same_store, outcome_there}
 
 -- ---- laws of the evaluator, as the calls state them
@@ -89,12 +89,12 @@ module _ (over : AllOver) (t : WideTree) (ds : List DonePart) (hold : AllByRecur
           (agrees_is p.before trace.looks (unflagged (fits p.before (Some trace)) f)) traced.1
 
   each_stays : (ps : List Part) → AllByRecursion (StandsIn [] t) ps → AllByRecursion HasTrace ps → (k : ℕ) (s : Stored)
-      → slice_get (map stored ps) k ≡ Some s
+      → slice_get (map stored_part ps) k ≡ Some s
       → slice_get (map (λ p. not (serves (kept_at (kept_parts ds)) p)) ps) k ≡ Some false
       → kept_at (kept_parts ds) s.path ≡ s.trace
   each_stays [] stand traced k s e f = cc
   each_stays (p ∷ ps) stand traced zero s e f =
-      subst (λ (x : Stored). kept_at (kept_parts ds) x.path ≡ x.trace) (same_Some (stored p) s e)
+      subst (λ (x : Stored). kept_at (kept_parts ds) x.path ≡ x.trace) (same_Some (stored_part p) s e)
       (part_stays p stand.0 traced.0 (same_Some (not (serves (kept_at (kept_parts ds)) p)) false f))
   each_stays (p ∷ ps) stand traced (suc k) s e f = each_stays ps stand.1 traced.1 k s e f
 
@@ -102,7 +102,7 @@ module _ (over : AllOver) (t : WideTree) (ds : List DonePart) (hold : AllByRecur
 
 module _ (over : AllOver) (stand : AllStandIn) (traced : AllTraced) (sheller : Sheller) (sound_by : IsSheller sheller)
   where
-    unit_stays : (m : Moment) (u : DocUnit) (ds : List DonePart) → IsPlaced u
+    unit_stays : (m : Moment) (u : DocUnit) (ds : List DonePart) → HasPathIfBody u
         → AllByRecursion (HoldsPart u.tagged.tree) ds → (k : ℕ) (s : Stored) → slice_get (fresh_parts_by sheller m u) k
         ≡ Some s
         → slice_get (part_flags_by sheller m u (kept_parts ds)) k ≡ Some false → kept_at (kept_parts ds) s.path
@@ -122,9 +122,9 @@ module _ (over : AllOver) (stand : AllStandIn) (traced : AllTraced) (sheller : S
             (traced sheller sound_by MOST_LEVELS (allowance m) [] u.tagged.tree (get m.env) trace
             (outcome_there u m m.env m.left (allowance m) refl refl placed n ∙ e)) k s f g
 
-    units_stay : (m : Moment) (bs : List Bridge) → AllByRecursion IsSound bs
-        → PartsStay (parts_in bs) (fresh_parts_by_from sheller m (units_of (entries_of bs)))
-        (part_flags_by_from sheller m (entries_of bs) (parts_in bs))
+    units_stay : (m : Moment) (bs : List Bridge) → AllByRecursion IsSoundBridge bs
+        → PartsStay (stored_parts_in bs) (fresh_parts_by_from sheller m (units_of (entries_of bs)))
+        (part_flags_by_from sheller m (entries_of bs) (stored_parts_in bs))
     units_stay m [] sound i k old new fs s is_old is_new is_fs at flag = cc
     units_stay m (b ∷ bs) sound zero k old new fs s is_old is_new is_fs at flag =
         ap (λ ks. kept_at ks s.path) (sym (same_Some (kept_parts b.parts) old is_old))
@@ -134,14 +134,15 @@ module _ (over : AllOver) (stand : AllStandIn) (traced : AllTraced) (sheller : S
     units_stay m (b ∷ bs) sound (suc i) k old new fs s is_old is_new is_fs at flag =
         units_stay (behind m (outcome_of m b.unit)) bs sound.1 i k old new fs s is_old is_new is_fs at flag
 
-    pub parts_stay : (m : Moment) (bs items whole : List Bridge) (olds : List KeptParts) → All IsSound bs
-        → parts_in bs ≡ olds → parts_in items ≡ fresh_parts_by_from sheller m (units_of (entries_of bs))
-        → part_flags_in items ≡ part_flags_by_from sheller m (entries_of bs) (parts_in bs) → whole ≡ items
-        → PartsStay olds (parts_in whole) (part_flags_in whole)
+    pub parts_stay : (m : Moment) (bs items whole : List Bridge) (olds : List KeptParts) → All IsSoundBridge bs
+        → stored_parts_in bs ≡ olds → stored_parts_in items ≡ fresh_parts_by_from sheller m (units_of (entries_of bs))
+        → part_flags_in items ≡ part_flags_by_from sheller m (entries_of bs) (stored_parts_in bs) → whole ≡ items
+        → PartsStay olds (stored_parts_in whole) (part_flags_in whole)
     parts_stay m bs items whole olds sound had are marks is =
-        subst (λ pss. PartsStay pss (parts_in whole) (part_flags_in whole)) had
-        (subst (λ ws. PartsStay (parts_in bs) (parts_in ws) (part_flags_in ws)) (sym is)
-        (subst (PartsStay (parts_in bs) (parts_in items)) (sym marks)
-        (subst (λ pss. PartsStay (parts_in bs) pss (part_flags_by_from sheller m (entries_of bs) (parts_in bs)))
+        subst (λ pss. PartsStay pss (stored_parts_in whole) (part_flags_in whole)) had
+        (subst (λ ws. PartsStay (stored_parts_in bs) (stored_parts_in ws) (part_flags_in ws)) (sym is)
+        (subst (PartsStay (stored_parts_in bs) (stored_parts_in items)) (sym marks)
+        (subst (λ pss. PartsStay (stored_parts_in bs) pss (part_flags_by_from sheller m (entries_of bs)
+        (stored_parts_in bs)))
         (sym are)
-        (units_stay m bs (recursion_from_All IsSound bs sound)))))
+        (units_stay m bs (recursion_from_All IsSoundBridge bs sound)))))

@@ -19,12 +19,12 @@ use Rattle.tx_units.specs.Places.{NoneBegins}
 use Rattle.tx_units.specs.Places.{AreApart as PathsApart}
 use Rattle.tx_units.specs.Units.{unit_with, units_with}
 use Rattle.tx_bridge.specs.declared.bridge.Bridge.{Bridge}
-use Rattle.tx_bridge.specs.UnitLists.{IsPlaced, AreUnits}
-use Rattle.tx_bridge.specs.Sound.{IsSound, sources_in}
+use Rattle.tx_bridge.specs.UnitLists.{HasPathIfBody, AreUnits}
+use Rattle.tx_bridge.specs.Sound.{IsSoundBridge, sources_in}
 use Rattle.tx_bridge.specs.Carrying.{is_path, same_kind, same_unit, through, mods_of}
-use Rattle.tx_bridge.specs.Slots.{IsSlot, AreApart, AllPlaced, given_from, given_all, fresh_bridge, paths_in}
+use Rattle.tx_bridge.specs.Slots.{IsSlot, HaveOwnPaths, AllPlaced, given_from, given_all, fresh_bridge, paths_in}
 use Rattle.tx_bridge.specs.Slots.{bodies_of, given}
-use Rattle.tx_bridge.specs.InPlace.{begins, is_gone, are_within, is_changed, IsOneChanged, numbers_but}
+use Rattle.tx_bridge.specs.InPlace.{begins_path, is_gone, are_within, is_changed, IsOneChanged, numbers_but}
 use Rattle.tx_walk.proofs.Trees.{both, and_true, self_same}
 use Rattle.tx_bridge.proofs.Slotting.{path_is, some_once, slot_found, slot_by_place}
 use Rattle.tx_bridge.proofs.Slotting.{slot_same, slot_gone_at}
@@ -80,7 +80,7 @@ get_behind (z ∷ xs) x ys (suc n) e = get_behind xs x ys n (omega (arith, e))
 -- stood, but number i stands nowhere and has a path.
 pub record Settles (i k : ℕ) (place : Option (List ℕ)) (b : Bridge) (u : DocUnit) : Type 0 where
   pub alike : is_alike b.unit u ≡ true
-  pub placed : IsPlaced b.unit
+  pub placed : HasPathIfBody b.unit
   pub stays : (k ≡ i → ⊥) → place ≡ b.unit.path
   pub goes : k ≡ i → (place ≡ None) × (is_some b.unit.path ≡ true)
 
@@ -105,7 +105,7 @@ module _ (i k : ℕ) (place : Option (List ℕ)) (b : Bridge) (u : DocUnit) (s :
       sym (gives_none place k b now
       (slot_gone_at place (s.goes at).0 k b.unit now (s.goes at).1 s.placed placed))
 
-  gives_here : (k ≡ i → ⊥) → AreApart now → AllPlaced now
+  gives_here : (k ≡ i → ⊥) → HaveOwnPaths now → AllPlaced now
       → given_from place k b 0 now ≡ done ++ settled_one false k b u ∷ map fresh_bridge us
   gives_here off apart placed =
       sym (by b.unit.path refl)
@@ -124,7 +124,7 @@ module _ (i k : ℕ) (place : Option (List ℕ)) (b : Bridge) (u : DocUnit) (s :
           (subst P (sym (s.stays off ∙ e))
           (slot_same now k b.unit (fresh_bridge u) e s.placed placed here (without_path b.unit u e s.alike)))
 
-  gives_one : AreApart now → AllPlaced now → (c : Bool) → k == i ≡ c
+  gives_one : HaveOwnPaths now → AllPlaced now → (c : Bool) → k == i ≡ c
       → given_from place k b 0 now ≡ done ++ settled_one c k b u ∷ map fresh_bridge us
   gives_one apart placed true e = gives_new ((Decides-eqb k i).0 e) placed
   gives_one apart placed false e =
@@ -132,7 +132,7 @@ module _ (i k : ℕ) (place : Option (List ℕ)) (b : Bridge) (u : DocUnit) (s :
 
 module _ (P : Option (List ℕ) → Option (List ℕ)) (i : ℕ) where
   all_settled : (done bs : List Bridge) (us : List DocUnit) (k : ℕ) → k ≡ length done → length bs ≡ length us
-      → AreApart (done ++ map fresh_bridge us) → AllPlaced (done ++ map fresh_bridge us)
+      → HaveOwnPaths (done ++ map fresh_bridge us) → AllPlaced (done ++ map fresh_bridge us)
       → ((m n : ℕ) (b : Bridge) (u : DocUnit) → m ≡ k + n → slice_get bs n ≡ Some b → slice_get us n ≡ Some u
       → Settles i m (P b.unit.path) b u)
       → given_all k (map P (paths_in bs)) bs (done ++ map fresh_bridge us) ≡ done ++ settled i k bs us
@@ -150,7 +150,7 @@ module _ (P : Option (List ℕ) → Option (List ℕ)) (i : ℕ) where
       ap (given_all (k + 1) (map P (paths_in bs)) bs) (sym next)
       ∙ all_settled (done ++ x ∷ []) bs us (k + 1) (omega (arith, many, length-append done (x ∷ [])))
       (omega (arith, same))
-      (subst AreApart (sym next)
+      (subst HaveOwnPaths (sym next)
       (given_apart place k b (done ++ fresh_bridge u ∷ map fresh_bridge us) apart))
       (subst AllPlaced (sym next)
       (given_placed place k b (done ++ fresh_bridge u ∷ map fresh_bridge us) placed))
@@ -209,9 +209,9 @@ one_front : (ms : List Mod) (p q : List ℕ) → is_gone p ms ≡ true → are_w
 one_front [] p q gone h g f e = cc
 one_front (m ∷ ms) p q gone h g f e =
     let of_p : path_of m ≡ p ++ drop (length p) (path_of m) =
-    begins_is p (path_of m) (both (begins p (path_of m)) (are_within p ms) h).0 in
+    begins_is p (path_of m) (both (begins_path p (path_of m)) (are_within p ms) h).0 in
     let of_q : path_of m ≡ q ++ drop (length q) (path_of m) =
-    begins_is q (path_of m) (both (begins q (path_of m)) (are_within q ms) g).0 in
+    begins_is q (path_of m) (both (begins_path q (path_of m)) (are_within q ms) g).0 in
     fronts_meet p q (drop (length p) (path_of m)) (drop (length q) (path_of m)) (sym of_p ∙ of_q) f e
 
 pub changed_once : (ms : List Mod) (us : List DocUnit) → AreUnits us → (j k : ℕ) (u v : DocUnit)
@@ -235,7 +235,7 @@ goes_from [] t q gone within = cc
 goes_from (m ∷ ms) t q gone within = all_go m ms t q within gone
 
 module _ (i buffer : ℕ) (ms : List Mod) (t : WideTree) (old : List Bridge) (us : List DocUnit)
-    (applies : (u : WideTree) × (changed_by_all ms t ≡ Some u)) (are : AreUnits us) (sound : All IsSound old)
+    (applies : (u : WideTree) × (changed_by_all ms t ≡ Some u)) (are : AreUnits us) (sound : All IsSoundBridge old)
     (one : IsOneChanged i buffer ms (bodies_of old)) (many : length (bodies_of old) ≡ length us)
     (alike : AreAlike (bodies_of old) us) where
   changing : Changes ms one.unit
@@ -363,8 +363,8 @@ many_with i t [] = refl
 many_with zero t (u ∷ us) = refl
 many_with (suc i) t (u ∷ us) = ap suc (many_with i t us)
 
-placed_with : (i : ℕ) (t : WideTree) (us : List DocUnit) → AllByRecursion IsPlaced us
-    → AllByRecursion IsPlaced (units_with i t us)
+placed_with : (i : ℕ) (t : WideTree) (us : List DocUnit) → AllByRecursion HasPathIfBody us
+    → AllByRecursion HasPathIfBody (units_with i t us)
 placed_with i t [] h = tt
 placed_with zero t (u ∷ us) h = (record { path = h.0.path; origin = h.0.origin }, h.1)
 placed_with (suc i) t (u ∷ us) h = (h.0, placed_with i t us h.1)

@@ -7,7 +7,7 @@ use Rattle.std.specs.Option.{option_map, option_map_or}
 use Rattle.tx_units.specs.declared.kinds.Unit.{Unit as DocUnit}
 use Rattle.tx_bridge.specs.declared.bridge.Bridge.{Bridge}
 use Rattle.tx_bridge.specs.Carrying.{is_path, same_unit, number_at, same_number, source, sources_from}
-use Rattle.tx_bridge.specs.Slots.{AreApart, AreMoved, AllPlaced, fresh_bridge, bodies_of}
+use Rattle.tx_bridge.specs.Slots.{HaveOwnPaths, AreMoved, AllPlaced, fresh_bridge, bodies_of}
 use Rattle.tx_bridge.proofs.Slotting.{path_is, back_alike, some_once}
 
 -- no number stands twice
@@ -118,32 +118,33 @@ fresh_at : (us : List DocUnit) (k : ℕ) (v : DocUnit) → slice_get us k ≡ So
 fresh_at us k v e = slice_get-map fresh_bridge us k ∙ ap (option_map fresh_bridge) e
 
 module _ (qs : List (Option (List ℕ))) (old : List Bridge) (us : List DocUnit) (moved : AreMoved qs old)
-    (placed : AllPlaced old) (apart : AreApart (map fresh_bridge us)) (fresh : AllPlaced (map fresh_bridge us)) where
-  -- an old unit that stands at a path has no new one by its number
-  not_both : (i : ℕ) (p : List ℕ) (k : ℕ) (w : DocUnit) → slice_get qs i ≡ Some (Some p) → slice_get us k ≡ Some w
-      → ByNumber (bodies_of old) k w i → ⊥
-  not_both i p k w place at y =
-      let x : (b : Bridge) × (slice_get old k ≡ Some b) × (b.unit ≡ y.old) = body_at old k y.old y.there in
-      let same : same_unit x.0.unit w ≡ true = ap (λ u. same_unit u w) x.2 ∙ y.alike in
-      let none : x.0.unit.path ≡ None =
-      back_alike x.0.unit w (placed k x.0 x.1) (fresh k (fresh_bridge w) (fresh_at us k w at)) same y.none in
-      let off : Some p ≡ None = moved i (Some p) x.0 place (ap (slice_get old) y.number ∙ x.1) none in
-      cc
+    (placed : AllPlaced old) (apart : HaveOwnPaths (map fresh_bridge us)) (fresh : AllPlaced (map fresh_bridge us))
+  where
+    -- an old unit that stands at a path has no new one by its number
+    not_both : (i : ℕ) (p : List ℕ) (k : ℕ) (w : DocUnit) → slice_get qs i ≡ Some (Some p) → slice_get us k ≡ Some w
+        → ByNumber (bodies_of old) k w i → ⊥
+    not_both i p k w place at y =
+        let x : (b : Bridge) × (slice_get old k ≡ Some b) × (b.unit ≡ y.old) = body_at old k y.old y.there in
+        let same : same_unit x.0.unit w ≡ true = ap (λ u. same_unit u w) x.2 ∙ y.alike in
+        let none : x.0.unit.path ≡ None =
+        back_alike x.0.unit w (placed k x.0 x.1) (fresh k (fresh_bridge w) (fresh_at us k w at)) same y.none in
+        let off : Some p ≡ None = moved i (Some p) x.0 place (ap (slice_get old) y.number ∙ x.1) none in
+        cc
 
-  meet : (i j k : ℕ) (v w : DocUnit) → slice_get us j ≡ Some v → slice_get us k ≡ Some w
-      → ByPath qs v i ⊎ ByNumber (bodies_of old) j v i → ByPath qs w i ⊎ ByNumber (bodies_of old) k w i → j ≡ k
-  meet i j k v w at_j at_k (inl x) (inl y) =
-      let same : Some x.path ≡ Some y.path =
-      some_once (slice_get qs i) (Some x.path) (Some y.path) x.place y.place in
-      apart j k (fresh_bridge v) (fresh_bridge w) x.path (fresh_at us j v at_j) (fresh_at us k w at_k) x.has
-      (y.has ∙ sym same)
-  meet i j k v w at_j at_k (inl x) (inr y) = absurd (not_both i x.path k w x.place at_k y)
-  meet i j k v w at_j at_k (inr x) (inl y) = absurd (not_both i y.path j v y.place at_j x)
-  meet i j k v w at_j at_k (inr x) (inr y) = sym x.number ∙ y.number
+    meet : (i j k : ℕ) (v w : DocUnit) → slice_get us j ≡ Some v → slice_get us k ≡ Some w
+        → ByPath qs v i ⊎ ByNumber (bodies_of old) j v i → ByPath qs w i ⊎ ByNumber (bodies_of old) k w i → j ≡ k
+    meet i j k v w at_j at_k (inl x) (inl y) =
+        let same : Some x.path ≡ Some y.path =
+        some_once (slice_get qs i) (Some x.path) (Some y.path) x.place y.place in
+        apart j k (fresh_bridge v) (fresh_bridge w) x.path (fresh_at us j v at_j) (fresh_at us k w at_k) x.has
+        (y.has ∙ sym same)
+    meet i j k v w at_j at_k (inl x) (inr y) = absurd (not_both i x.path k w x.place at_k y)
+    meet i j k v w at_j at_k (inr x) (inl y) = absurd (not_both i y.path j v y.place at_j x)
+    meet i j k v w at_j at_k (inr x) (inr y) = sym x.number ∙ y.number
 
-  pub none_twice : NoneTwice (sources_from qs (bodies_of old) 0 us)
-  none_twice i j k e f =
-      let x : HasSource qs (bodies_of old) us j j i = source_at qs (bodies_of old) us 0 j j i (omega arith) e in
-      let y : HasSource qs (bodies_of old) us k k i = source_at qs (bodies_of old) us 0 k k i (omega arith) f in
-      meet i j k x.unit y.unit x.there y.there (source_says qs (bodies_of old) j x.unit i x.from)
-      (source_says qs (bodies_of old) k y.unit i y.from)
+    pub none_twice : NoneTwice (sources_from qs (bodies_of old) 0 us)
+    none_twice i j k e f =
+        let x : HasSource qs (bodies_of old) us j j i = source_at qs (bodies_of old) us 0 j j i (omega arith) e in
+        let y : HasSource qs (bodies_of old) us k k i = source_at qs (bodies_of old) us 0 k k i (omega arith) f in
+        meet i j k x.unit y.unit x.there y.there (source_says qs (bodies_of old) j x.unit i x.from)
+        (source_says qs (bodies_of old) k y.unit i y.from)

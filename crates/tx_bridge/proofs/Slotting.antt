@@ -13,9 +13,9 @@ use Rattle.tx_units.specs.declared.kinds.UnitKind.{UnitKind}
 use Rattle.tx_units.specs.declared.kinds.UnitKind.TheVariants.{Base, Style, Absent, Initial, Body}
 use Rattle.tx_bridge.specs.declared.bridge.Bridge.{Bridge}
 use Rattle.tx_walk.specs.SameTrees.{is_same}
-use Rattle.tx_bridge.specs.UnitLists.{is_body, IsPlaced}
+use Rattle.tx_bridge.specs.UnitLists.{is_body_unit, HasPathIfBody}
 use Rattle.tx_bridge.specs.Carrying.{is_path, same_kind, same_unit}
-use Rattle.tx_bridge.specs.Slots.{stays, IsSlot, IsPathSlot, AreApart, AllPlaced}
+use Rattle.tx_bridge.specs.Slots.{stays, IsSlot, IsPathSlot, HaveOwnPaths, AllPlaced}
 use Rattle.tx_bridge.specs.Slots.{last_number, IsInOrder, AreInOrder}
 use Rattle.tx_walk.proofs.Trees.{both, and_true, alike}
 
@@ -28,7 +28,7 @@ path_is p (Some q) h = ap Some ((bytes_eq-Decides q p).0 h)
 
 -- ---- kinds and paths
 
-kinds_body : (j k : UnitKind) → same_kind j k ≡ true → is_body j ≡ is_body k
+kinds_body : (j k : UnitKind) → same_kind j k ≡ true → is_body_unit j ≡ is_body_unit k
 kinds_body Base Base h = refl
 kinds_body Base (Style n) h = cc
 kinds_body Base Absent h = cc
@@ -60,22 +60,25 @@ no_path None h = refl
 no_path (Some p) h = cc
 
 -- the same unit has a path where the other one has
-pub paths_alike : (u v : DocUnit) → IsPlaced u → IsPlaced v → same_unit u v ≡ true → is_some u.path ≡ is_some v.path
+pub paths_alike : (u v : DocUnit) → HasPathIfBody u → HasPathIfBody v → same_unit u v ≡ true
+    → is_some u.path ≡ is_some v.path
 paths_alike u v placed there same =
     placed.path
     ∙ kinds_body u.kind v.kind (both (same_kind u.kind v.kind) (is_same u.tagged.tree v.tagged.tree) same).0
     ∙ sym there.path
 
-pub none_alike : (u v : DocUnit) → IsPlaced u → IsPlaced v → same_unit u v ≡ true → u.path ≡ None → v.path ≡ None
+pub none_alike : (u v : DocUnit) → HasPathIfBody u → HasPathIfBody v → same_unit u v ≡ true → u.path ≡ None
+    → v.path ≡ None
 none_alike u v placed there same none =
     no_path v.path (sym (paths_alike u v placed there same) ∙ ap is_some none)
 
-pub back_alike : (u v : DocUnit) → IsPlaced u → IsPlaced v → same_unit u v ≡ true → v.path ≡ None → u.path ≡ None
+pub back_alike : (u v : DocUnit) → HasPathIfBody u → HasPathIfBody v → same_unit u v ≡ true → v.path ≡ None
+    → u.path ≡ None
 back_alike u v placed there same none = no_path u.path (paths_alike u v placed there same ∙ ap is_some none)
 
 -- ---- slots
 
-pub slot_found : (p : List ℕ) (new : List Bridge) (j : ℕ) (v : Bridge) → AreApart new → slice_get new j ≡ Some v
+pub slot_found : (p : List ℕ) (new : List Bridge) (j : ℕ) (v : Bridge) → HaveOwnPaths new → slice_get new j ≡ Some v
     → is_path p v.unit.path ≡ true → IsPathSlot p new (Some j)
 slot_found p new j v apart at has k w e =
     alike (is_path p w.unit.path) (k == j)
@@ -118,7 +121,7 @@ stays_same (Some p) i u k v h = cc
 stays_same None i u k v h =
     ((Decides-eqb i k).0 (both (i == k) (same_unit u v) h).0, (both (i == k) (same_unit u v) h).1)
 
-pub slot_same : (new : List Bridge) (i : ℕ) (u : DocUnit) (v : Bridge) → u.path ≡ None → IsPlaced u → AllPlaced new
+pub slot_same : (new : List Bridge) (i : ℕ) (u : DocUnit) (v : Bridge) → u.path ≡ None → HasPathIfBody u → AllPlaced new
     → slice_get new i ≡ Some v → same_unit u v.unit ≡ true → IsSlot None i u new (Some i)
 slot_same new i u v none placed all at same k w e =
     alike (stays None i u k w.unit) (k == i)
@@ -149,7 +152,8 @@ slot_past new i u past k w e =
     cc)
 
 -- a unit with a path is none without one
-apart_kinds : (u v : DocUnit) → IsPlaced u → IsPlaced v → (u.path ≡ None → ⊥) → v.path ≡ None → same_unit u v ≡ false
+apart_kinds : (u v : DocUnit) → HasPathIfBody u → HasPathIfBody v → (u.path ≡ None → ⊥) → v.path ≡ None
+    → same_unit u v ≡ false
 apart_kinds u v placed there some none =
     false_from_ne_true (same_unit u v) (λ h. absurd (some (back_alike u v placed there h none)))
 
@@ -165,14 +169,14 @@ by_its_path p (Some q) i u k v other =
 by_its_path p None i u k v other = and_false (i == k) (same_unit u v) (other refl)
 
 slot_by_path : (p : List ℕ) (i : ℕ) (u : DocUnit) (new : List Bridge) (slot : Option ℕ)
-    → (u.path ≡ None → Some p ≡ None) → IsPlaced u → AllPlaced new → IsPathSlot p new slot
+    → (u.path ≡ None → Some p ≡ None) → HasPathIfBody u → AllPlaced new → IsPathSlot p new slot
     → IsSlot (Some p) i u new slot
 slot_by_path p i u new slot some placed all h k w e =
     by_its_path p w.unit.path i u k w.unit
     (apart_kinds u w.unit placed (all k w e) (λ none. let off : Some p ≡ None = some none in cc)) ∙ h k w e
 
 pub slot_by_place : (place : Option (List ℕ)) (p : List ℕ) (i : ℕ) (u : DocUnit) (new : List Bridge) (slot : Option ℕ)
-    → place ≡ Some p → (u.path ≡ None → place ≡ None) → IsPlaced u → AllPlaced new → IsPathSlot p new slot
+    → place ≡ Some p → (u.path ≡ None → place ≡ None) → HasPathIfBody u → AllPlaced new → IsPathSlot p new slot
     → IsSlot place i u new slot
 slot_by_place place p i u new slot is some placed all h =
     let P : Option (List ℕ) → Type 0 = λ q. IsSlot q i u new slot in
@@ -183,14 +187,14 @@ gone : (o : Option (List ℕ)) (i : ℕ) (u : DocUnit) (k : ℕ) (v : DocUnit) �
 gone (Some p) i u k v other = refl
 gone None i u k v other = and_false (i == k) (same_unit u v) (other refl)
 
-pub slot_gone : (i : ℕ) (u : DocUnit) (new : List Bridge) → is_some u.path ≡ true → IsPlaced u → AllPlaced new
+pub slot_gone : (i : ℕ) (u : DocUnit) (new : List Bridge) → is_some u.path ≡ true → HasPathIfBody u → AllPlaced new
     → IsSlot None i u new None
 slot_gone i u new some placed all k w e =
     gone w.unit.path i u k w.unit
     (apart_kinds u w.unit placed (all k w e) (λ none. let off : is_some u.path ≡ false = ap is_some none in cc))
 
 pub slot_gone_at : (place : Option (List ℕ)) → place ≡ None → (i : ℕ) (u : DocUnit) (new : List Bridge)
-    → is_some u.path ≡ true → IsPlaced u → AllPlaced new → IsSlot place i u new None
+    → is_some u.path ≡ true → HasPathIfBody u → AllPlaced new → IsSlot place i u new None
 slot_gone_at place none i u new some placed all =
     let P : Option (List ℕ) → Type 0 = λ q. IsSlot q i u new None in
     subst P (sym none) (slot_gone i u new some placed all)

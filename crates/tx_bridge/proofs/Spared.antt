@@ -13,10 +13,10 @@ use Rattle.tx_exec_form.specs.declared.TheConstants.{MOST_LEVELS}
 use Rattle.tx_exec_form.specs.Runs.{Before}
 use Rattle.tx_exec_form.specs.Evaluated.{WideTrace}
 use Rattle.tx_parts.specs.Composed.{evaluates}
-use Rattle.tx_parts.specs.Opening.{Sheller, closed}
+use Rattle.tx_parts.specs.Opening.{Sheller, no_shells}
 use Rattle.tx_parts.specs.Shellers.{IsSheller}
 use Rattle.tx_parts.specs.LayerCosts.{Holder, layer_costs_by}
-use Rattle.tx_parts.specs.Parts.{Part, HasTrace, parts_by, part_cost, Stored, stored}
+use Rattle.tx_parts.specs.Parts.{Part, HasTrace, parts_by, part_cost, Stored, stored_part}
 use Rattle.tx_walk.specs.Held.{Store, Stores, agrees, fits as part_fits, serves, charge_of as part_charge}
 use Rattle.tx_walk.specs.Held.{only, charges}
 use Rattle.tx_walk.specs.LayerTraces.{TreeTrace, holds_either}
@@ -26,14 +26,14 @@ use Rattle.tx_walk.proofs.Trees.{both}
 use Rattle.tx_units.specs.declared.kinds.Unit.{Unit as DocUnit}
 use Rattle.tx_view_form.specs.Outcomes.{Moment, allowance, charge, behind}
 use Rattle.tx_bridge.specs.Entries.{Entry, Kept, outcome_of}
-use Rattle.tx_bridge.specs.Reached.{fits, is_kept, are_kept, unit_stays_by}
+use Rattle.tx_bridge.specs.Reached.{can_be_used, is_kept, are_kept, unit_stays_by}
 use Rattle.tx_bridge.specs.PartsKept.{KeptParts, kept_at, has_parts, unit_parts, unit_parts_by, parts_if_done}
 use Rattle.tx_bridge.specs.PartsKept.{fresh_parts, fresh_parts_by}
 use Rattle.tx_bridge.specs.Spares.{UnitSpare, Spares, nothing_spare, first_spare, stores_with}
 use Rattle.tx_bridge.specs.Charges.{layers_charge, parts_charge_by, whole_charge, unit_charge_by, is_charged, charge_by}
 use Rattle.tx_bridge.specs.Charges.{first_layers, charges_by}
-use Rattle.tx_bridge.specs.Charges.{charge_with, charges_with, unit_charge, charge_of, charges_from}
-use Rattle.tx_bridge.specs.UnitLists.{IsPlaced}
+use Rattle.tx_bridge.specs.Charges.{charge_with, charges_with, unit_charge, charge_alone, charges_from}
+use Rattle.tx_bridge.specs.UnitLists.{HasPathIfBody}
 use Rattle.tx_bridge.proofs.ByParts.{AllSameStored, both_stores, outcome_there}
 use Rattle.tx_bridge.proofs.Remaining.{AllTraced}
 use Rattle.tx_bridge.proofs.Staying.{stored_kept}
@@ -41,7 +41,7 @@ use Rattle.tx_bridge.proofs.Used.{AllSupport, AllAllowed, AllAgree, fits_is, out
 
 -- laws of shells, as the calls state them
 abbrev pub LayersFree : Type 0
-LayersFree = (held : Holder) (k c : ℕ) (t : WideTree) (e : Before) → layer_costs_by held closed k c t e ≡ 0
+LayersFree = (held : Holder) (k c : ℕ) (t : WideTree) (e : Before) → layer_costs_by held no_shells k c t e ≡ 0
 
 abbrev pub AllDistinct : Type 0
 AllDistinct = (sheller : Sheller) (k c : ℕ) (path : List ℕ) (t : WideTree) (e : Before)
@@ -50,14 +50,14 @@ AllDistinct = (sheller : Sheller) (k c : ℕ) (path : List ℕ) (t : WideTree) (
 -- ---- where nothing is spare
 
 parts_alone : LayersFree → (m : Moment) (u : DocUnit) (ps : KeptParts)
-    → parts_charge_by closed m u ps [] [] [] ≡ charges (only (kept_at ps)) (unit_parts m u)
+    → parts_charge_by no_shells m u ps [] [] [] ≡ charges (only (kept_at ps)) (unit_parts m u)
 parts_alone free m u ps =
-    let none : layer_costs_by (holds_either [] []) closed MOST_LEVELS (allowance m) u.tagged.tree (get m.env) ≡ 0 =
+    let none : layer_costs_by (holds_either [] []) no_shells MOST_LEVELS (allowance m) u.tagged.tree (get m.env) ≡ 0 =
     free (holds_either [] []) MOST_LEVELS (allowance m) u.tagged.tree (get m.env) in
     omega (arith, none)
 
 unit_alone : LayersFree → (m : Moment) (u : DocUnit) (ps : KeptParts)
-    → unit_charge_by closed m u ps [] nothing_spare ≡ unit_charge m u ps
+    → unit_charge_by no_shells m u ps [] nothing_spare ≡ unit_charge m u ps
 unit_alone free m u ps =
     ap (λ n. if has_parts u then n else charge m (outcome_of m u)) (parts_alone free m u ps)
 
@@ -68,23 +68,23 @@ nothing_charged free m (e ∷ es) [] = refl
 nothing_charged free m (e ∷ es) (ps ∷ pss) =
     let next : Moment = behind m (outcome_of m e.unit) in
     ap (λ n. (if is_charged m e then n else 0) + charges_with next es pss []) (unit_alone free m e.unit ps)
-    ∙ ap (λ n. charge_of m e ps + n) (nothing_charged free next es pss)
+    ∙ ap (λ n. charge_alone m e ps + n) (nothing_charged free next es pss)
 
 -- whatever is held of layers
 unit_unseen : LayersFree → (m : Moment) (u : DocUnit) (ps : KeptParts) (ls : List TreeTrace) (s : UnitSpare)
-    → unit_charge_by closed m u ps ls s ≡ unit_charge_by closed m u ps [] s
+    → unit_charge_by no_shells m u ps ls s ≡ unit_charge_by no_shells m u ps [] s
 unit_unseen free m u ps ls s =
     ap (λ n. if has_parts u then charges (stores_with ps s.parts) (unit_parts m u) + n else whole_charge m u s)
     (free (holds_either ls s.layers) MOST_LEVELS (allowance m) u.tagged.tree (get m.env)
     ∙ sym (free (holds_either [] s.layers) MOST_LEVELS (allowance m) u.tagged.tree (get m.env)))
 
 pub layers_unseen : LayersFree → (m : Moment) (es : Kept) (pss : List KeptParts) (lss : List (List TreeTrace))
-    (ss : Spares) → charges_by closed m es pss lss ss ≡ charges_with m es pss ss
+    (ss : Spares) → charges_by no_shells m es pss lss ss ≡ charges_with m es pss ss
 layers_unseen free m [] pss lss ss = refl
 layers_unseen free m (e ∷ es) [] lss ss = refl
 layers_unseen free m (e ∷ es) (ps ∷ pss) lss ss =
     let next : Moment = behind m (outcome_of m e.unit) in
-    ap (λ n. (if is_charged m e then n else 0) + charges_by closed next es pss (drop 1 lss) (drop 1 ss))
+    ap (λ n. (if is_charged m e then n else 0) + charges_by no_shells next es pss (drop 1 lss) (drop 1 ss))
     (unit_unseen free m e.unit ps (first_layers lss) (first_spare ss))
     ∙ ap (λ n. charge_with m e ps (first_spare ss) + n) (layers_unseen free next es pss (drop 1 lss) (drop 1 ss))
 
@@ -188,12 +188,12 @@ pub staying_charged : AllDistinct → (sheller : Sheller) (m : Moment) (e : Entr
     → charge_by sheller m e ks ls s ≡ layers_charge (holds_either ls s.layers) sheller m e.unit
 staying_charged distinct sheller m e ks ls s is = by (has_parts e.unit) refl
   where
-    tests : (fits m e.trace ≡ true)
+    tests : (can_be_used m e.trace ≡ true)
         × ((not (has_parts e.unit) || are_kept ks (unit_parts_by sheller m e.unit)) ≡ true)
-    tests = both (fits m e.trace) (not (has_parts e.unit) || are_kept ks (unit_parts_by sheller m e.unit)) is
+    tests = both (can_be_used m e.trace) (not (has_parts e.unit) || are_kept ks (unit_parts_by sheller m e.unit)) is
 
     by : (b : Bool) → has_parts e.unit ≡ b
-        → (if b || not (fits m e.trace)
+        → (if b || not (can_be_used m e.trace)
         then if b then parts_charge_by sheller m e.unit ks s.parts ls s.layers else whole_charge m e.unit s else 0)
         ≡ (if b
         then layer_costs_by (holds_either ls s.layers) sheller MOST_LEVELS (allowance m) e.unit.tagged.tree (get m.env)
@@ -203,11 +203,11 @@ staying_charged distinct sheller m e ks ls s is = by (has_parts e.unit) refl
         own_parts_free distinct sheller m e.unit ks s.parts ls s.layers
         (ap (λ a. not a || are_kept ks (unit_parts_by sheller m e.unit)) (sym n) ∙ tests.1)
 
-pub layers_free : LayersFree → (held : Holder) (m : Moment) (u : DocUnit) → layers_charge held closed m u ≡ 0
+pub layers_free : LayersFree → (held : Holder) (m : Moment) (u : DocUnit) → layers_charge held no_shells m u ≡ 0
 layers_free free held m u = by (has_parts u)
   where
     by : (b : Bool)
-        → (if b then layer_costs_by held closed MOST_LEVELS (allowance m) u.tagged.tree (get m.env) else 0) ≡ 0
+        → (if b then layer_costs_by held no_shells MOST_LEVELS (allowance m) u.tagged.tree (get m.env) else 0) ≡ 0
     by false = refl
     by true = free held MOST_LEVELS (allowance m) u.tagged.tree (get m.env)
 
@@ -215,7 +215,8 @@ layers_free free held m u = by (has_parts u)
 
 module _ (support : AllSupport) (allowed : AllAllowed) (agree : AllAgree) (same : AllSameStored) (traced : AllTraced)
     (distinct : AllDistinct) (sheller : Sheller) (sound : IsSheller sheller) (m n : Moment) (u : DocUnit)
-    (placed : IsPlaced u) (trace : WideTrace) (is : outcome_of n u ≡ Some trace) (fit : fits m (Some trace) ≡ true)
+    (placed : HasPathIfBody u) (trace : WideTrace) (is : outcome_of n u
+    ≡ Some trace) (fit : can_be_used m (Some trace) ≡ true)
   where
     tests : (agrees (get m.env) trace.looks ≡ true) × (nat_le trace.cost (allowance m) ≡ true)
     tests = both (agrees (get m.env) trace.looks) (nat_le trace.cost (allowance m)) fit
@@ -224,7 +225,7 @@ module _ (support : AllSupport) (allowed : AllAllowed) (agree : AllAgree) (same 
     comes nested = outcome_there u n n.env n.left (allowance n) refl refl placed nested ∙ is
 
     -- they are those of the unit at this moment
-    parts_are : has_parts u ≡ true → fresh_parts_by sheller n u ≡ map stored (unit_parts_by sheller m u)
+    parts_are : has_parts u ≡ true → fresh_parts_by sheller n u ≡ map stored_part (unit_parts_by sheller m u)
     parts_are nested =
         ap (λ b. if b then parts_if_done (outcome_of n u) (unit_parts_by sheller n u) else []) nested
         ∙ ap (λ o. parts_if_done o (unit_parts_by sheller n u)) is
@@ -250,7 +251,7 @@ module _ (support : AllSupport) (allowed : AllAllowed) (agree : AllAgree) (same 
         → unit_stays_by sheller m (record { unit = u; trace = o }) (fresh_parts_by sheller n u) ≡ true
     unit_stays o at =
         ap (λ f. f && (not (has_parts u) || are_kept (fresh_parts_by sheller n u) (unit_parts_by sheller m u)))
-        (ap (fits m) at ∙ fit) ∙ by (has_parts u) refl
+        (ap (can_be_used m) at ∙ fit) ∙ by (has_parts u) refl
       where
         by : (b : Bool) → has_parts u ≡ b
             → (not b || are_kept (fresh_parts_by sheller n u) (unit_parts_by sheller m u)) ≡ true
@@ -263,30 +264,31 @@ module _ (support : AllSupport) (allowed : AllAllowed) (agree : AllAgree) (same 
         ≡ layers_charge (holds_either ls rs) sheller m u
     spare_charged o ps ls rs = by (has_parts u) refl
       where
-        unused : (b : Bool) → (if b then (if fits m (Some trace) then 0 else charge m (outcome_of m u)) else 0) ≡ 0
+        unused : (b : Bool) → (if b then (if can_be_used m (Some trace) then 0 else charge m (outcome_of m u)) else 0)
+            ≡ 0
         unused true = ap (λ f. if f then 0 else charge m (outcome_of m u)) fit
         unused false = refl
 
         by : (b : Bool) → has_parts u ≡ b
-            → (if b || not (fits m o)
+            → (if b || not (can_be_used m o)
             then if b then parts_charge_by sheller m u ps (fresh_parts_by sheller n u) ls rs
-            else if fits m (Some trace) then 0 else charge m (outcome_of m u) else 0)
+            else if can_be_used m (Some trace) then 0 else charge m (outcome_of m u) else 0)
             ≡ (if b
             then layer_costs_by (holds_either ls rs) sheller MOST_LEVELS (allowance m) u.tagged.tree (get m.env)
             else 0)
-        by false nested = unused (not (fits m o))
+        by false nested = unused (not (can_be_used m o))
         by true nested = spare_parts_free distinct sheller m u ps (fresh_parts_by sheller n u) ls rs (parts_kept nested)
 
 pub fresh_stays : AllSupport → AllAllowed → AllAgree → AllSameStored → AllTraced → AllDistinct → (sheller : Sheller)
-    → IsSheller sheller → (m n : Moment) (e : Entry) (trace : WideTrace) → IsPlaced e.unit → e.trace ≡ Some trace
-    → outcome_of n e.unit ≡ Some trace → fits m (Some trace) ≡ true
+    → IsSheller sheller → (m n : Moment) (e : Entry) (trace : WideTrace) → HasPathIfBody e.unit → e.trace ≡ Some trace
+    → outcome_of n e.unit ≡ Some trace → can_be_used m (Some trace) ≡ true
     → unit_stays_by sheller m e (fresh_parts_by sheller n e.unit) ≡ true
 fresh_stays support allowed agree same traced distinct sheller sound m n e trace placed at is fit =
     unit_stays support allowed agree same traced distinct sheller sound m n e.unit placed trace is fit e.trace at
 
 pub spare_layers : AllSupport → AllAllowed → AllAgree → AllSameStored → AllTraced → AllDistinct → (sheller : Sheller)
     → IsSheller sheller → (m n : Moment) (e : Entry) (ps : KeptParts) (ls rs : List TreeTrace) (trace : WideTrace)
-    → IsPlaced e.unit → outcome_of n e.unit ≡ Some trace → fits m (Some trace) ≡ true
+    → HasPathIfBody e.unit → outcome_of n e.unit ≡ Some trace → can_be_used m (Some trace) ≡ true
     → charge_by sheller m e ps ls (record { trace = Some trace; parts = fresh_parts_by sheller n e.unit; layers = rs })
     ≡ layers_charge (holds_either ls rs) sheller m e.unit
 spare_layers support allowed agree same traced distinct sheller sound m n e ps ls rs trace placed is fit =
@@ -294,9 +296,9 @@ spare_layers support allowed agree same traced distinct sheller sound m n e ps l
     rs
 
 pub spare_free : AllSupport → AllAllowed → AllAgree → AllSameStored → AllTraced → AllDistinct → LayersFree
-    → IsSheller closed → (m n : Moment) (e : Entry) (ps : KeptParts) (rs : List TreeTrace) (trace : WideTrace)
-    → IsPlaced e.unit → outcome_of n e.unit ≡ Some trace → fits m (Some trace) ≡ true
+    → IsSheller no_shells → (m n : Moment) (e : Entry) (ps : KeptParts) (rs : List TreeTrace) (trace : WideTrace)
+    → HasPathIfBody e.unit → outcome_of n e.unit ≡ Some trace → can_be_used m (Some trace) ≡ true
     → charge_with m e ps (record { trace = Some trace; parts = fresh_parts n e.unit; layers = rs }) ≡ 0
 spare_free support allowed agree same traced distinct free shut m n e ps rs trace placed is fit =
-    spare_layers support allowed agree same traced distinct closed shut m n e ps [] rs trace placed is fit
+    spare_layers support allowed agree same traced distinct no_shells shut m n e ps [] rs trace placed is fit
     ∙ layers_free free (holds_either [] rs) m e.unit

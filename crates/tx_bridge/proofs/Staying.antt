@@ -15,9 +15,9 @@ use Rattle.tx_exec_form.specs.Evaluated.{WideTrace}
 use Rattle.tx_exec_form.specs.Laws.{Supports}
 use Rattle.tx_exec.specs.Outcomes.{wide_trace, wide_outcome}
 use Rattle.tx_parts.specs.Composed.{alone}
-use Rattle.tx_parts.specs.Opening.{Sheller, closed}
+use Rattle.tx_parts.specs.Opening.{Sheller, no_shells}
 use Rattle.tx_parts.specs.Shellers.{IsSheller}
-use Rattle.tx_parts.specs.Parts.{Part, HasTrace, part_trace, Stored, stored}
+use Rattle.tx_parts.specs.Parts.{Part, HasTrace, part_trace, Stored, stored_part}
 use Rattle.tx_parts.specs.Standing.{StandsIn}
 use Rattle.tx_walk.specs.declared.part.Part.{Part as DonePart}
 use Rattle.tx_walk.specs.Held.{Store, fits as part_fits, serves}
@@ -28,13 +28,13 @@ use Rattle.tx_units.specs.declared.kinds.Unit.{Unit as DocUnit}
 use Rattle.tx_view_form.specs.Outcomes.{Moment, allowance}
 use Rattle.tx_bridge.specs.declared.bridge.Bridge.{Bridge}
 use Rattle.tx_bridge.specs.Entries.{Entry, outcome_of}
-use Rattle.tx_bridge.specs.Reached.{fits, is_kept, are_kept, unit_stays_by}
+use Rattle.tx_bridge.specs.Reached.{can_be_used, is_kept, are_kept, unit_stays_by}
 use Rattle.tx_bridge.specs.PartsKept.{KeptParts, kept_at, has_parts, unit_parts_by, parts_if_done, fresh_parts_by}
 use Rattle.tx_bridge.specs.PartsKept.{fresh_parts, flags_if_done, part_flags, part_flags_by}
 use Rattle.tx_bridge.specs.HeldParts.{HoldsPart, AreItsParts, kept_part, kept_parts, flags_of_parts}
 use Rattle.tx_bridge.specs.HeldParts.{is_same_part, are_same_parts}
-use Rattle.tx_bridge.specs.Sound.{Holds, IsSound, entry_of}
-use Rattle.tx_bridge.specs.UnitLists.{IsPlaced}
+use Rattle.tx_bridge.specs.Sound.{TraceHolds, IsSoundBridge, kept_unit}
+use Rattle.tx_bridge.specs.UnitLists.{HasPathIfBody}
 use Rattle.tx_bridge.proofs.ByParts.{AllStandIn, outcome_there}
 use Rattle.tx_bridge.proofs.Marked.{AreKept, each_kept}
 use Rattle.tx_bridge.proofs.Remaining.{AllOver, AllTraced, only_one}
@@ -43,16 +43,16 @@ use Rattle.tx_bridge.proofs.Used.{AllAgree, fits_is, parts_fit}
 
 -- ---- parts with the traces that they come to are kept
 
-one_kept : AllAgree → (p : Part) → HasTrace p → is_kept (stored p) p ≡ true
+one_kept : AllAgree → (p : Part) → HasTrace p → is_kept (stored_part p) p ≡ true
 one_kept agree p traced =
     ap (λ b. b && part_fits p.before (part_trace p)) ((bytes_eq-Decides p.path p.path).1 refl)
     ∙ ap (part_fits p.before) traced.1
     ∙ agrees_of p.before traced.0.looks (agree p.levels p.steps (alone p.tree) p.before traced.0 traced.1)
 
-pub stored_kept : AllAgree → (ps : List Part) → AllByRecursion HasTrace ps → are_kept (map stored ps) ps ≡ true
+pub stored_kept : AllAgree → (ps : List Part) → AllByRecursion HasTrace ps → are_kept (map stored_part ps) ps ≡ true
 stored_kept agree [] traced = refl
 stored_kept agree (p ∷ ps) traced =
-    ap (λ b. b && are_kept (map stored ps) ps) (one_kept agree p traced.0) ∙ stored_kept agree ps traced.1
+    ap (λ b. b && are_kept (map stored_part ps) ps) (one_kept agree p traced.0) ∙ stored_kept agree ps traced.1
 
 -- ---- those that a walk tells as the same are kept
 
@@ -76,7 +76,7 @@ one_same kept k d p at path flag =
     ∙ same_by k d p kept (bytes_eq k.path p.path) refl at
 
 pub are_same_is : (kept : Store) (ks ds : List DonePart) (ps : List Part) → AreKept kept ks
-    → kept_parts ds ≡ map stored ps → flags_of_parts ds ≡ map (λ p. not (serves kept p)) ps
+    → kept_parts ds ≡ map stored_part ps → flags_of_parts ds ≡ map (λ p. not (serves kept p)) ps
     → are_same_parts ks ds ≡ are_kept (kept_parts ks) ps
 are_same_is kept [] [] [] at are flags = refl
 are_same_is kept [] [] (p ∷ ps) at are flags = cc
@@ -86,8 +86,8 @@ are_same_is kept (k ∷ ks) [] [] at are flags = refl
 are_same_is kept (k ∷ ks) [] (p ∷ ps) at are flags = cc
 are_same_is kept (k ∷ ks) (d ∷ ds) [] at are flags = cc
 are_same_is kept (k ∷ ks) (d ∷ ds) (p ∷ ps) at are flags =
-    let parts : (kept_part d ≡ stored p) × (kept_parts ds ≡ map stored ps) =
-    heads (kept_part d) (stored p) (kept_parts ds) (map stored ps) are in
+    let parts : (kept_part d ≡ stored_part p) × (kept_parts ds ≡ map stored_part ps) =
+    heads (kept_part d) (stored_part p) (kept_parts ds) (map stored_part ps) are in
     let marks : (d.renewed ≡ not (serves kept p)) × (flags_of_parts ds ≡ map (λ q. not (serves kept q)) ps) =
     heads d.renewed (not (serves kept p)) (flags_of_parts ds) (map (λ q. not (serves kept q)) ps) flags in
     ap (λ b. b && are_same_parts ks ds)
@@ -100,7 +100,7 @@ stored_as : List ℕ → Option WideTrace → Stored
 stored_as path trace = record { path = path; trace = trace }
 
 one_stored : AllOver → (t : WideTree) (k : DonePart) (p : Part) → HoldsPart t k → StandsIn [] t p → HasTrace p
-    → is_kept (kept_part k) p ≡ true → kept_part k ≡ stored p
+    → is_kept (kept_part k) p ≡ true → kept_part k ≡ stored_part p
 unfolding stored_as
 one_stored over t k p hold stands traced is =
     let tests : (bytes_eq k.path p.path ≡ true) × (part_fits p.before (Some (wide_trace k.trace)) ≡ true) =
@@ -117,7 +117,7 @@ one_stored over t k p hold stands traced is =
 
 pub all_stored : AllOver → (t : WideTree) (ks : List DonePart) (ps : List Part) → AllByRecursion (HoldsPart t) ks
     → AllByRecursion (StandsIn [] t) ps → AllByRecursion HasTrace ps → are_kept (kept_parts ks) ps ≡ true
-    → kept_parts ks ≡ map stored ps
+    → kept_parts ks ≡ map stored_part ps
 all_stored over t [] [] hold stand traced is = refl
 all_stored over t [] (p ∷ ps) hold stand traced is = cc
 all_stored over t (k ∷ ks) [] hold stand traced is = cc
@@ -125,7 +125,7 @@ all_stored over t (k ∷ ks) (p ∷ ps) hold stand traced is =
     let tests : (is_kept (kept_part k) p ≡ true) × (are_kept (kept_parts ks) ps ≡ true) =
     both (is_kept (kept_part k) p) (are_kept (kept_parts ks) ps) is in
     ap (λ s. s ∷ kept_parts ks) (one_stored over t k p hold.0 stand.0 traced.0 tests.0)
-    ∙ ap (λ ss. stored p ∷ ss) (all_stored over t ks ps hold.1 stand.1 traced.1 tests.1)
+    ∙ ap (λ ss. stored_part p ∷ ss) (all_stored over t ks ps hold.1 stand.1 traced.1 tests.1)
 
 -- ---- a unit that is evaluated again
 
@@ -134,11 +134,11 @@ shown true h = refl
 shown false h = cc
 
 -- by the tests that the program makes
-stays_by : (sheller : Sheller) (m : Moment) (b : Bridge) (ds : List DonePart) (used : Bool) → IsSound b
-    → used ≡ fits m (wide_outcome b.kept) → (has_parts b.unit ≡ false → used ≡ false)
+stays_by : (sheller : Sheller) (m : Moment) (b : Bridge) (ds : List DonePart) (used : Bool) → IsSoundBridge b
+    → used ≡ can_be_used m (wide_outcome b.kept) → (has_parts b.unit ≡ false → used ≡ false)
     → kept_parts ds ≡ fresh_parts_by sheller m b.unit
     → flags_of_parts ds ≡ part_flags_by sheller m b.unit (kept_parts b.parts)
-    → used && are_same_parts b.parts ds ≡ unit_stays_by sheller m (entry_of b) (kept_parts b.parts)
+    → used && are_same_parts b.parts ds ≡ unit_stays_by sheller m (kept_unit b) (kept_parts b.parts)
 stays_by sheller m b ds false sound is bare are flags =
     ap (λ f. f && (not (has_parts b.unit) || are_kept (kept_parts b.parts) (unit_parts_by sheller m b.unit))) is
 stays_by sheller m b ds true sound is bare are flags =
@@ -149,7 +149,7 @@ stays_by sheller m b ds true sound is bare are flags =
     comes = fits_is m (wide_outcome b.kept) (tagged_of b.unit.tagged) sound.holds (sym is)
 
     none_fits : outcome_of m b.unit ≡ None → ⊥
-    none_fits none = let off : true ≡ false = is ∙ ap (fits m) (comes ∙ none) in cc
+    none_fits none = let off : true ≡ false = is ∙ ap (can_be_used m) (comes ∙ none) in cc
 
     by : (a : Bool) (o : Option WideTrace) → has_parts b.unit ≡ a → outcome_of m b.unit ≡ o
         → kept_parts ds ≡ (if a then parts_if_done o (unit_parts_by sheller m b.unit) else [])
@@ -165,33 +165,33 @@ stays_by sheller m b ds true sound is bare are flags =
         ∙ ap (λ a. not a || are_kept (kept_parts b.parts) (unit_parts_by sheller m b.unit)) (sym n)
 
 pub renewed_is : (sheller : Sheller) (m : Moment) (b : Bridge) (ds ks es : List DonePart) (used stays : Bool)
-    → IsSound b → used ≡ fits m (wide_outcome b.kept) → (has_parts b.unit ≡ false → used ≡ false)
+    → IsSoundBridge b → used ≡ can_be_used m (wide_outcome b.kept) → (has_parts b.unit ≡ false → used ≡ false)
     → kept_parts ds ≡ fresh_parts_by sheller m b.unit
     → flags_of_parts ds ≡ part_flags_by sheller m b.unit (kept_parts b.parts) → ks ≡ b.parts → es ≡ ds
     → stays ≡ used && are_same_parts ks es
-    → not stays ≡ not (unit_stays_by sheller m (entry_of b) (kept_parts b.parts))
+    → not stays ≡ not (unit_stays_by sheller m (kept_unit b) (kept_parts b.parts))
 renewed_is sheller m b ds ks es used stays sound is bare are flags own now h =
     ap not (h ∙ ap (λ xs. used && are_same_parts xs es) own ∙ ap (λ xs. used && are_same_parts b.parts xs) now
     ∙ stays_by sheller m b ds used sound is bare are flags)
 
 -- what is kept of it, and of its parts, is as before where it stays
 module _ (over : AllOver) (stand : AllStandIn) (traced : AllTraced) (sheller : Sheller) (shells : IsSheller sheller)
-    (m : Moment) (b : Bridge) (sound : IsSound b) (flag : Bool)
-    (is : flag ≡ not (unit_stays_by sheller m (entry_of b) (kept_parts b.parts))) (down : flag ≡ false) where
-  stays : unit_stays_by sheller m (entry_of b) (kept_parts b.parts) ≡ true
-  stays = shown (unit_stays_by sheller m (entry_of b) (kept_parts b.parts)) (sym is ∙ down)
+    (m : Moment) (b : Bridge) (sound : IsSoundBridge b) (flag : Bool)
+    (is : flag ≡ not (unit_stays_by sheller m (kept_unit b) (kept_parts b.parts))) (down : flag ≡ false) where
+  stays : unit_stays_by sheller m (kept_unit b) (kept_parts b.parts) ≡ true
+  stays = shown (unit_stays_by sheller m (kept_unit b) (kept_parts b.parts)) (sym is ∙ down)
 
-  tests : (fits m (wide_outcome b.kept) ≡ true)
+  tests : (can_be_used m (wide_outcome b.kept) ≡ true)
       × ((not (has_parts b.unit) || are_kept (kept_parts b.parts) (unit_parts_by sheller m b.unit)) ≡ true)
   tests =
-      both (fits m (wide_outcome b.kept))
+      both (can_be_used m (wide_outcome b.kept))
       (not (has_parts b.unit) || are_kept (kept_parts b.parts) (unit_parts_by sheller m b.unit)) stays
 
   pub same_kept : (o : Option WideTrace) → o ≡ outcome_of m b.unit → o ≡ wide_outcome b.kept
   same_kept o comes =
       comes ∙ sym (fits_is m (wide_outcome b.kept) (tagged_of b.unit.tagged) sound.holds tests.0)
 
-  pub same_parts_kept : (ks : KeptParts) (used : Bool) → used ≡ fits m (wide_outcome b.kept)
+  pub same_parts_kept : (ks : KeptParts) (used : Bool) → used ≡ can_be_used m (wide_outcome b.kept)
       → (has_parts b.unit ≡ false → used ≡ false) → ks ≡ fresh_parts_by sheller m b.unit → ks ≡ kept_parts b.parts
   same_parts_kept ks used may bare are = are ∙ by (has_parts b.unit) (outcome_of m b.unit) refl refl
     where
@@ -199,7 +199,7 @@ module _ (over : AllOver) (stand : AllStandIn) (traced : AllTraced) (sheller : S
       comes = fits_is m (wide_outcome b.kept) (tagged_of b.unit.tagged) sound.holds tests.0
 
       none_fits : outcome_of m b.unit ≡ None → ⊥
-      none_fits none = let off : true ≡ false = sym tests.0 ∙ ap (fits m) (comes ∙ none) in cc
+      none_fits none = let off : true ≡ false = sym tests.0 ∙ ap (can_be_used m) (comes ∙ none) in cc
 
       by : (a : Bool) (o : Option WideTrace) → has_parts b.unit ≡ a → outcome_of m b.unit ≡ o
           → (if a then parts_if_done o (unit_parts_by sheller m b.unit) else []) ≡ kept_parts b.parts

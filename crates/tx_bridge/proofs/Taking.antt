@@ -13,7 +13,7 @@ use Rattle.tx_exec.specs.Outcomes.{wide_outcome}
 use Rattle.tx_units.specs.declared.kinds.Unit.{Unit as DocUnit}
 use Rattle.tx_bridge.specs.declared.bridge.Bridge.{Bridge}
 use Rattle.tx_bridge.specs.Entries.{Entry, Kept, units_of, traces_of}
-use Rattle.tx_bridge.specs.Sound.{IsSound, entries_of, sources_in}
+use Rattle.tx_bridge.specs.Sound.{IsSoundBridge, entries_of, sources_in}
 use Rattle.tx_bridge.specs.PartsKept.{KeptParts}
 use Rattle.tx_bridge.specs.HeldParts.{kept_parts}
 use Rattle.tx_bridge.specs.UnitLists.{AreUnits}
@@ -331,7 +331,7 @@ pub record IsCarried (buffer : ℕ) (ms : List Mod) (t : WideTree) (kept : Kept)
   pub units : units_of (entries_of result) ≡ us
 
 pub given_to_is : (buffer : ℕ) (ms : List Mod) (t : WideTree) (kept : Kept) (us : List DocUnit)
-    (old ws result : List Bridge) → AreBare us ws → entries_of old ≡ kept → All IsSound old → AreUnits us
+    (old ws result : List Bridge) → AreBare us ws → entries_of old ≡ kept → All IsSoundBridge old → AreUnits us
     → result ≡ given_to ws (mods_of buffer ms) t old → IsCarried buffer ms t kept us result
 given_to_is buffer ms t kept us old ws result bare was sound are is_given =
     let bodies : units_of kept ≡ bodies_of old = sym (ap units_of was) ∙ units_bodies old in
@@ -355,7 +355,7 @@ given_to_is buffer ms t kept us old ws result bare was sound are is_given =
     }
 
 pub given_is : (buffer : ℕ) (ms : List Mod) (t : WideTree) (kept : Kept) (us : List DocUnit)
-    (old result : List Bridge) → entries_of old ≡ kept → All IsSound old → AreUnits us
+    (old result : List Bridge) → entries_of old ≡ kept → All IsSoundBridge old → AreUnits us
     → result ≡ given (mods_of buffer ms) t old us → IsCarried buffer ms t kept us result
 given_is buffer ms t kept us old result was sound are is_given =
     given_to_is buffer ms t kept us old (map fresh_bridge us) result (fresh_bare us) was sound are is_given

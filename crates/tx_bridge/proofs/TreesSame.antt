@@ -13,9 +13,9 @@ use Rattle.tx_units.specs.declared.kinds.Unit.{Unit as DocUnit}
 use Rattle.tx_walk.specs.SameTrees.{is_same}
 use Rattle.tx_walk.proofs.Trees.{both, same_is}
 use Rattle.tx_bridge.specs.declared.bridge.Bridge.{Bridge}
-use Rattle.tx_bridge.specs.UnitLists.{IsPlaced, AreUnits}
+use Rattle.tx_bridge.specs.UnitLists.{HasPathIfBody, AreUnits}
 use Rattle.tx_bridge.specs.Entries.{Kept, units_of}
-use Rattle.tx_bridge.specs.Sound.{IsSound, entries_of, sources_in}
+use Rattle.tx_bridge.specs.Sound.{IsSoundBridge, entries_of, sources_in}
 use Rattle.tx_bridge.specs.Carrying.{same_kind, same_unit, through, unit_places_after, sources, mods_of, Stands}
 use Rattle.tx_bridge.specs.Carrying.{AllStand, HaveOneTree, AreSameBodies, HaveSameTrees}
 use Rattle.tx_bridge.specs.Slots.{bodies_of}
@@ -32,7 +32,7 @@ all_at P (y ∷ xs) zero x h e = let same : y ≡ x = cc in subst P same h.0
 all_at P (y ∷ xs) (suc k) x h e = all_at P xs k x h.1 e
 
 abbrev EachPlaced : List DocUnit → Type 0
-EachPlaced us = (k : ℕ) (u : DocUnit) → slice_get us k ≡ Some u → IsPlaced u
+EachPlaced us = (k : ℕ) (u : DocUnit) → slice_get us k ≡ Some u → HasPathIfBody u
 
 -- where an old unit stands at the path of a new one, they have one tree
 abbrev EachSameAt : List Mod → WideTree → List DocUnit → List DocUnit → Type 0
@@ -97,15 +97,15 @@ each_same zero ms t us vs made law old new same =
 each_same (suc buffer) ms t us vs made law old new same =
     same_in_other t us vs (same (λ q. omega (arith, q)))
 
-each_placed : (old : List Bridge) (us : List DocUnit) → us ≡ bodies_of old → All IsSound old → EachPlaced us
+each_placed : (old : List Bridge) (us : List DocUnit) → us ≡ bodies_of old → All IsSoundBridge old → EachPlaced us
 each_placed old us is sound k u at =
     let x : (b : Bridge) × (slice_get old k ≡ Some b) × (b.unit ≡ u) =
     body_at old k u (ap (λ ws. slice_get ws k) (sym is) ∙ at) in
-    subst IsPlaced x.2 (sound_placed old sound k x.0 x.1)
+    subst HasPathIfBody x.2 (sound_placed old sound k x.0 x.1)
 
 -- the premises are what the calls ensure, in their order
 pub carry_trees : (buffer : ℕ) (ms : List Mod) (t : WideTree) (kept : Kept) (us : List DocUnit)
-    (old ws result : List Bridge) → AreBare us ws → entries_of old ≡ kept → All IsSound old
+    (old ws result : List Bridge) → AreBare us ws → entries_of old ≡ kept → All IsSoundBridge old
     → ((u : WideTree) × (changed_by_all ms t ≡ Some u)) → ((q : List ℕ) → CarriesThroughAll ms t q) → AreUnits us
     → (buffer ≡ 0 → AllStand t (units_of kept))
     → (buffer ≡ 0 → (u : WideTree) → changed_by_all ms t ≡ Some u → AllStand u us)
@@ -118,4 +118,4 @@ carry_trees buffer ms t kept us old ws result bare was sound applies law are sta
     (trees_same (mods_of buffer ms) t (units_of kept) us
     (each_same buffer ms t (units_of kept) us applies law stand_old stand_new same)
     (each_placed old (units_of kept) (sym (ap units_of was) ∙ units_bodies old) sound)
-    (λ k u at. all_at IsPlaced us k u are.placed at))
+    (λ k u at. all_at HasPathIfBody us k u are.placed at))

@@ -19,19 +19,20 @@ use Rattle.tx_walk.specs.LayerTraces.{TreeTrace}
 use Rattle.tx_walk.specs.SameTrees.{same}
 use Rattle.tx_bridge.specs.Entries.{outcome_of, fresh_from}
 use Rattle.tx_walk.specs.Held.{agrees}
-use Rattle.tx_bridge.specs.Reached.{fits}
+use Rattle.tx_bridge.specs.Reached.{can_be_used}
 use Rattle.tx_bridge.specs.Settled.{AgreesWith, AreSettled, IsSilent}
-use Rattle.tx_bridge.specs.Sound.{Holds, IsSound}
+use Rattle.tx_bridge.specs.Sound.{TraceHolds, IsSoundBridge}
 use Rattle.tx_bridge.specs.PartsKept.{KeptParts, has_parts, unit_parts, parts_if_done, fresh_parts}
 use Rattle.tx_bridge.specs.HeldParts.{PartsHold, AreItsParts}
 use Rattle.tx_walk.specs.declared.part.Part.{Part as DonePart}
-use Rattle.tx_bridge.specs.UnitLists.{IsPlaced}
+use Rattle.tx_bridge.specs.UnitLists.{HasPathIfBody}
 use Rattle.tx_walk.proofs.Trees.{both}
 use Rattle.tx_bridge.proofs.Once.{none_set}
 use Rattle.tx_walk.proofs.Agreed.{agrees_is, agrees_of, test_same}
 
 -- what fits is what the tree comes to
-pub fits_is : (m : Moment) (o : Option WideTrace) (t : TaggedTree) → Holds o t → fits m o ≡ true → o ≡ outcome t m
+pub fits_is : (m : Moment) (o : Option WideTrace) (t : TaggedTree) → TraceHolds o t → can_be_used m o ≡ true
+    → o ≡ outcome t m
 unfolding outcome
 fits_is m None t holds h = cc
 fits_is m (Some trace) t holds h =
@@ -52,7 +53,7 @@ AllAllowed = (k c : ℕ) (t : TaggedTree) (e : Before) (trace : WideTrace) → e
 
 -- what a tree comes to holds of it
 pub outcome_holds : AllSupport → AllAllowed → (m : Moment) (o : Option WideTrace) (t : TaggedTree) → o ≡ outcome t m
-    → Holds o t
+    → TraceHolds o t
 unfolding outcome
 outcome_holds support allowed m None t e = tt
 outcome_holds support allowed m (Some trace) t e = (
@@ -72,8 +73,8 @@ charge_fits allowed m (Some trace) t e =
 pub sound_with : AllSupport → AllAllowed → (m : Moment) (u : DocUnit) (o : Outcome) (ps : List DonePart)
     (ls : List TreeTrace) (shelled flag : Bool) (from : Option ℕ)
     → wide_outcome o ≡ outcome (tagged_of u.tagged) m → NamesOnce o
-    → IsPlaced u → PartsHold shelled u (wide_outcome o) ps
-    → IsSound (record {
+    → HasPathIfBody u → PartsHold shelled u (wide_outcome o) ps
+    → IsSoundBridge (record {
       unit = u;
       kept = o;
       parts = ps;
@@ -90,7 +91,7 @@ sound_with support allowed m u o ps ls shelled flag from e once placed hold = re
 }
 
 -- where what is kept fits, so do its parts
-pub parts_fit : (m : Moment) (o : Option WideTrace) (u : DocUnit) (ks : KeptParts) → fits m o ≡ true
+pub parts_fit : (m : Moment) (o : Option WideTrace) (u : DocUnit) (ks : KeptParts) → can_be_used m o ≡ true
     → o ≡ outcome_of m u → AreItsParts u ks o → ks ≡ fresh_parts m u
 parts_fit m None u ks fit is all = cc
 parts_fit m (Some trace) u ks fit is all =
@@ -103,12 +104,12 @@ parts_fit m (Some trace) u ks fit is all =
 -- the test of a kept trace, by the pairs of its looks
 pub fits_done : (m : Moment) (map : NameMap) (o : Outcome) (trace : Trace) (b : Bool) → o ≡ Done trace → NamesOnce o
     → map ≡ m.env → b ≡ list_all (λ look. same (get map look.0) look.1) trace.looks
-    → b && nat_le trace.cost (allowance m) ≡ fits m (wide_outcome o)
+    → b && nat_le trace.cost (allowance m) ≡ can_be_used m (wide_outcome o)
 fits_done m map o trace b is once env h =
     ap (λ a. a && nat_le trace.cost (allowance m))
     (h ∙ ap (λ (e : NameMap). list_all (λ look. same (get e look.0) look.1) trace.looks) env
     ∙ test_same (λ look. same (get m.env look.0) look.1) trace.looks (subst NamesOnce is once).0)
-    ∙ ap (λ x. fits m (wide_outcome x)) (sym is)
+    ∙ ap (λ x. can_be_used m (wide_outcome x)) (sym is)
 
 -- where the looks are known to agree, so do their pairs
 pub pairs_agree : (m : Moment) (map : NameMap) (o : Outcome) (trace : Trace) → o ≡ Done trace → NamesOnce o

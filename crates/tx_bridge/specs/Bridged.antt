@@ -1,16 +1,12 @@
 -- All units with what is kept of them, as contracts see them.
 use Rattle.std.specs.Prelude.{ℕ, Bool, List, Option, refl}
 use Rattle.std.specs.Coded.{Coded, code_by, coded×, coded_list, coded_option, coded_bool, coded_ℕ}
-use Rattle.std.specs.FinMap.{code}
 use Rattle.tx_tree.specs.WideTree.{WideTree, coded_WideTree}
-use Rattle.tx_env.specs.Environments.{NameMap, coded_NameMap}
-use Rattle.tx_origin.specs.Values.{WideValue, coded_WideValue}
-use Rattle.tx_exec_form.specs.Maps.{LookMap}
 use Rattle.tx_exec_form.specs.Evaluated.{WideTrace}
 use Rattle.tx_units.specs.declared.kinds.Unit.{Unit as DocUnit}
 use Rattle.tx_units.specs.contracts.kinds.Unit as one_unit
 use Rattle.tx_parts.specs.Parts.{Stored}
-use Rattle.tx_walk.specs.LayerTraces.{TreeTrace, coded_TreeTrace}
+use Rattle.tx_walk.specs.LayerTraces.{TreeTrace, coded_trace, coded_TreeTrace}
 use Rattle.tx_bridge.specs.Entries.{Entry, Kept}
 use Rattle.tx_bridge.specs.PartsKept.{KeptParts}
 use Rattle.tx_bridge.specs.Strays.{Stray}
@@ -29,24 +25,14 @@ pub record Bridged : Type 0 where
 
 -- ---- the code by which proofs tell them apart
 
-abbrev look_code : Coded LookMap
-look_code = code (coded_list coded_ℕ) (coded_option coded_WideTree)
-
-abbrev trace_code : Coded WideTrace
-trace_code =
-    code_by (WideValue × (LookMap × (NameMap × (ℕ × ℕ))))
-    (coded× coded_WideValue (coded× look_code (coded× coded_NameMap (coded× coded_ℕ coded_ℕ))))
-    (λ t. (t.value, (t.looks, (t.writes, (t.cost, t.height)))))
-    (λ p. record { value = p.0; looks = p.1.0; writes = p.1.1.0; cost = p.1.1.1.0; height = p.1.1.1.1 }) (λ _. refl)
-
 abbrev pub coded_Entry : Coded Entry
 coded_Entry =
-    code_by (DocUnit × Option WideTrace) (coded× one_unit.the_row.coded (coded_option trace_code))
+    code_by (DocUnit × Option WideTrace) (coded× one_unit.the_row.coded (coded_option coded_trace))
     (λ e. (e.unit, e.trace)) (λ p. record { unit = p.0; trace = p.1 }) (λ _. refl)
 
 abbrev pub coded_Stored : Coded Stored
 coded_Stored =
-    code_by (List ℕ × Option WideTrace) (coded× (coded_list coded_ℕ) (coded_option trace_code))
+    code_by (List ℕ × Option WideTrace) (coded× (coded_list coded_ℕ) (coded_option coded_trace))
     (λ p. (p.path, p.trace)) (λ p. record { path = p.0; trace = p.1 }) (λ _. refl)
 
 abbrev pub coded_parts : Coded (List KeptParts)

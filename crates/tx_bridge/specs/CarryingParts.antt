@@ -25,10 +25,10 @@ and_part None ks = ks
 and_part (Some k) ks = k ∷ ks
 
 -- the parts that stay in the unit at p, where these are their places in the document afterwards
-abbrev pub parts_at : List ℕ → List (Option (List ℕ)) → KeptParts → KeptParts
-parts_at p [] ks = []
-parts_at p (q ∷ qs) [] = []
-parts_at p (q ∷ qs) (k ∷ ks) = and_part (part_at p q k) (parts_at p qs ks)
+abbrev pub parts_with_places : List ℕ → List (Option (List ℕ)) → KeptParts → KeptParts
+parts_with_places p [] ks = []
+parts_with_places p (q ∷ qs) [] = []
+parts_with_places p (q ∷ qs) (k ∷ ks) = and_part (part_at p q k) (parts_with_places p qs ks)
 
 abbrev pub places_below : List Mod → WideTree → List ℕ → KeptParts → List (Option (List ℕ))
 places_below ms t p ks = map (λ k. carried_by_all ms t (p ++ k.path)) ks
@@ -39,7 +39,7 @@ carried_below ms t p q = option_and_then (rest_behind p) (carried_by_all ms t (p
 
 -- the parts of the unit at p that stay in it
 abbrev pub parts_behind : List Mod → WideTree → List ℕ → KeptParts → KeptParts
-parts_behind ms t p ks = parts_at p (places_below ms t p ks) ks
+parts_behind ms t p ks = parts_with_places p (places_below ms t p ks) ks
 
 -- what stays of the parts of this unit
 abbrev pub parts_within : List Mod → WideTree → DocUnit → KeptParts → KeptParts

@@ -6,7 +6,7 @@ use Rattle.tx_exec_form.specs.declared.TheConstants.{MOST_LEVELS}
 use Rattle.tx_exec_form.specs.Evaluated.{WideTrace}
 use Rattle.tx_exec_form.specs.Laws.{Supports}
 use Rattle.tx_parts.specs.Shells.{bare}
-use Rattle.tx_parts.specs.Opening.{Sheller, closed}
+use Rattle.tx_parts.specs.Opening.{Sheller, no_shells}
 use Rattle.tx_parts.specs.LayerCosts.{Holder, layer_costs_by}
 use Rattle.tx_walk.specs.Guides.{Guide, charged}
 use Rattle.tx_walk.specs.LayerTraces.{TreeTrace, holds_in, holds_either}
@@ -15,7 +15,7 @@ use Rattle.tx_units.specs.declared.kinds.Unit.{Unit as DocUnit}
 use Rattle.tx_view_form.specs.Outcomes.{Moment, allowance, charge, behind}
 use Rattle.tx_bridge.specs.Entries.{Entry, Kept, outcome_of}
 use Rattle.tx_bridge.specs.PartsKept.{KeptParts, kept_at, has_parts, unit_parts}
-use Rattle.tx_bridge.specs.Reached.{fits}
+use Rattle.tx_bridge.specs.Reached.{can_be_used}
 use Rattle.tx_bridge.specs.Spares.{UnitSpare, Spares, first_spare, stores_with}
 
 -- ---- where trees have shells, and something is spare
@@ -38,7 +38,7 @@ parts_charge_by sheller m u ps spare ls spare_ls =
 
 -- what another one is charged where it is evaluated: its cost, or nothing where the spare can be used
 abbrev pub whole_charge : Moment → DocUnit → UnitSpare → ℕ
-whole_charge m u s = if fits m s.trace then 0 else charge m (outcome_of m u)
+whole_charge m u s = if can_be_used m s.trace then 0 else charge m (outcome_of m u)
 
 abbrev pub unit_charge_by : Sheller → Moment → DocUnit → KeptParts → List TreeTrace → UnitSpare → ℕ
 unit_charge_by sheller m u ps ls s =
@@ -47,7 +47,7 @@ unit_charge_by sheller m u ps ls s =
 -- A unit without parts isn't evaluated where what is kept of it can be used. One with parts is charged by these alone:
 -- nothing, where all are held and no layer is evaluated.
 abbrev pub is_charged : Moment → Entry → Bool
-is_charged m e = has_parts e.unit || not (fits m e.trace)
+is_charged m e = has_parts e.unit || not (can_be_used m e.trace)
 
 abbrev pub charge_by : Sheller → Moment → Entry → KeptParts → List TreeTrace → UnitSpare → ℕ
 charge_by sheller m e ps ls s = if is_charged m e then unit_charge_by sheller m e.unit ps ls s else 0
@@ -72,23 +72,23 @@ abbrev pub LayersHold : List TreeTrace → Type 0
 LayersHold ls = AllByRecursion (λ l. Supports l.trace (bare l.tree)) ls
 
 -- a walk of the unit at this moment, for which these are kept, evaluates no tree of a layer
-abbrev pub LayersKnown : Sheller → Moment → DocUnit → List TreeTrace → Type 0
-LayersKnown sheller m u ls = (trace : WideTrace) → outcome_of m u ≡ Some trace
+abbrev pub UnitLayersKnown : Sheller → Moment → DocUnit → List TreeTrace → Type 0
+UnitLayersKnown sheller m u ls = (trace : WideTrace) → outcome_of m u ≡ Some trace
     → layers_charge (holds_in ls) sheller m u ≡ 0
 
 -- so of each unit, the first at this moment and each other one behind those before it
 abbrev pub AllLayersKnown : Sheller → Moment → List DocUnit → List (List TreeTrace) → Type 0
 AllLayersKnown sheller m [] lss = Unit {0}
 AllLayersKnown sheller m (u ∷ us) lss =
-    LayersKnown sheller m u (first_layers lss) × AllLayersKnown sheller (behind m (outcome_of m u)) us (drop 1 lss)
+    UnitLayersKnown sheller m u (first_layers lss) × AllLayersKnown sheller (behind m (outcome_of m u)) us (drop 1 lss)
 
 -- ---- where nothing has a shell
 
 abbrev pub charge_with : Moment → Entry → KeptParts → UnitSpare → ℕ
-charge_with m e ps s = charge_by closed m e ps [] s
+charge_with m e ps s = charge_by no_shells m e ps [] s
 
 abbrev pub charges_with : Moment → Kept → List KeptParts → Spares → ℕ
-charges_with m es pss ss = charges_by closed m es pss [] ss
+charges_with m es pss ss = charges_by no_shells m es pss [] ss
 
 -- ---- and nothing is spare
 
@@ -96,10 +96,10 @@ abbrev pub unit_charge : Moment → DocUnit → KeptParts → ℕ
 unit_charge m u ps =
     if has_parts u then charges (only (kept_at ps)) (unit_parts m u) else charge m (outcome_of m u)
 
-abbrev pub charge_of : Moment → Entry → KeptParts → ℕ
-charge_of m e ps = if is_charged m e then unit_charge m e.unit ps else 0
+abbrev pub charge_alone : Moment → Entry → KeptParts → ℕ
+charge_alone m e ps = if is_charged m e then unit_charge m e.unit ps else 0
 
 abbrev pub charges_from : Moment → Kept → List KeptParts → ℕ
 charges_from m [] pss = 0
 charges_from m (e ∷ es) [] = 0
-charges_from m (e ∷ es) (ps ∷ pss) = charge_of m e ps + charges_from (behind m (outcome_of m e.unit)) es pss
+charges_from m (e ∷ es) (ps ∷ pss) = charge_alone m e ps + charges_from (behind m (outcome_of m e.unit)) es pss

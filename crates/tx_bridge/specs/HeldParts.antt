@@ -11,7 +11,7 @@ use Rattle.tx_exec_form.specs.Evaluated.{WideTrace}
 use Rattle.tx_exec_form.specs.Laws.{Agrees, Supports}
 use Rattle.tx_exec.specs.Outcomes.{wide_trace}
 use Rattle.tx_parts.specs.Composed.{alone}
-use Rattle.tx_parts.specs.Parts.{parts, Stored, stored}
+use Rattle.tx_parts.specs.Parts.{parts, Stored, stored_part}
 use Rattle.tx_walk.specs.declared.part.Part.{Part as DonePart}
 use Rattle.tx_walk.specs.Walked.{IsTidy, paths_of}
 use Rattle.tx_units.specs.declared.kinds.Unit.{Unit as DocUnit}
@@ -46,7 +46,7 @@ pub record HoldsPart (t : WideTree) (p : DonePart) : Type 0 where
 abbrev pub AreItsParts : DocUnit → KeptParts → Option WideTrace → Type 0
 AreItsParts u ks None = Unit {0}
 AreItsParts u ks (Some trace) = (n : ℕ) (e : Before) → Agrees e trace.looks → trace.cost ≤ n
-    → (if has_parts u then map stored (parts MOST_LEVELS n [] u.tagged.tree e) else []) ≡ ks
+    → (if has_parts u then map stored_part (parts MOST_LEVELS n [] u.tagged.tree e) else []) ≡ ks
 
 -- What is true of the parts that are kept of a unit, of which this trace is kept. If they are `shelled`, they may be
 -- those of an opener that opens something.

@@ -21,8 +21,8 @@ wraps (InsertNode p i x) = true
 wraps (RemoveNode p i) = false
 
 -- the path begins with the front
-abbrev pub begins : List ℕ → List ℕ → Bool
-begins front path = starts_with nat_eq path front
+abbrev pub begins_path : List ℕ → List ℕ → Bool
+begins_path front path = starts_with nat_eq path front
 
 -- Whether a modification inside the subtree at the path leaves that subtree nowhere. One that puts this very subtree
 -- into a node doesn't.
@@ -35,7 +35,7 @@ is_gone path ms = option_map_or (leaves_nowhere path) (slice_get ms 0) false
 
 -- all modifications are inside the subtree at the path
 abbrev pub are_within : List ℕ → List Mod → Bool
-are_within path ms = list_all (λ m. begins path (path_of m)) ms
+are_within path ms = list_all (λ m. begins_path path (path_of m)) ms
 
 -- the unit has a path, all modifications are inside its tree, and there is a first one, which leaves it nowhere
 abbrev pub is_changed : List Mod → DocUnit → Bool

@@ -8,9 +8,9 @@ use Rattle.tx_units.specs.declared.kinds.Unit.{Unit as DocUnit}
 use Rattle.tx_view_form.specs.Outcomes.{Moment}
 use Rattle.tx_bridge.specs.declared.bridge.Bridge.{Bridge}
 use Rattle.tx_bridge.specs.Entries.{outcome_of}
-use Rattle.tx_bridge.specs.Reached.{fits}
+use Rattle.tx_bridge.specs.Reached.{can_be_used}
 use Rattle.tx_bridge.specs.HeldParts.{kept_parts}
-use Rattle.tx_bridge.specs.Sound.{IsSound}
+use Rattle.tx_bridge.specs.Sound.{IsSoundBridge}
 use Rattle.tx_bridge.specs.Spares.{UnitSpare, Spares, nothing_spare}
 
 abbrev pub lent_spare : Bridge → UnitSpare
@@ -34,11 +34,11 @@ spares_in bs = map lent_spare bs
 -- it is one of this unit, and sound
 pub record IsSpareOf (u : DocUnit) (b : Bridge) : Type 0 where
   pub unit : b.unit ≡ u
-  pub sound : IsSound b
+  pub sound : IsSoundBridge b
 
 -- the outcome is what the unit comes to at the moment, where that is told by what is spare of it
 pub record IsUsable (m : Moment) (u : DocUnit) (spare : Option Bridge) (o : Outcome) : Type 0 where
-  pub fitting : fits m (spare_of spare).trace ≡ true
+  pub fitting : can_be_used m (spare_of spare).trace ≡ true
   pub comes : wide_outcome o ≡ outcome_of m u
   pub once : NamesOnce o
 

@@ -9,7 +9,7 @@ use Rattle.tx_walk.specs.declared.part.Part.{Part as DonePart}
 use Rattle.tx_walk.specs.Walked.{IsTidy}
 use Rattle.tx_bridge.specs.CarryingParts.{carried_below, parts_within}
 use Rattle.tx_bridge.specs.PartsKept.{KeptParts}
-use Rattle.tx_bridge.specs.Others.{kept_of, put_from}
+use Rattle.tx_bridge.specs.Others.{stored_of, put_from}
 
 -- where they stand afterwards, by their numbers; one that doesn't stay in the unit stands nowhere
 abbrev pub moves_of : List (ℕ × Option DonePart) → List (ℕ × Option (List ℕ))
@@ -26,7 +26,7 @@ places_by i (m ∷ ms) (q ∷ qs) =
 -- These are the parts of the unit that aren't found to stay, where this is kept of its parts.
 pub record AreMovedParts (ms : List Mod) (t : WideTree) (u : DocUnit) (ks : KeptParts) (os : List (ℕ × Option DonePart))
     : Type 0 where
-  pub kept : put_from 0 (kept_of os) ks ≡ parts_within ms t u ks
+  pub kept : put_from 0 (stored_of os) ks ≡ parts_within ms t u ks
   pub places : (p : List ℕ) → u.path ≡ Some p
       → places_by 0 (moves_of os) (map (λ k. k.path) ks) ≡ map (carried_below ms t p) (map (λ k. k.path) ks)
   pub tidy : All (λ o. IfSome o.1 IsTidy) os

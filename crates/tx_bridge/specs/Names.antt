@@ -22,16 +22,16 @@ use Rattle.tx_bridge.specs.PartMoves.{Move, AreMoves, arrived, part_moves, all_p
 use Rattle.tx_bridge.specs.Strays.{Stray, kept_strays, strays_beside}
 
 -- nothing is kept of these units
-unfoldable pub Empty : List DocUnit → Kept
-Empty us = nothing_kept us
+unfoldable pub EmptyTraces : List DocUnit → Kept
+EmptyTraces us = nothing_kept us
 
 -- nor of their parts
 unfoldable pub EmptyParts : List DocUnit → List KeptParts
 EmptyParts us = map (λ u. []) us
 
 -- what evaluating from nothing gives for these units
-unfoldable pub Fresh : Kept → Kept
-Fresh kept = fresh_from beginning (units_of kept)
+unfoldable pub FreshTraces : Kept → Kept
+FreshTraces kept = fresh_from beginning (units_of kept)
 
 -- what evaluating from nothing leaves of the parts of these units
 unfoldable pub FreshParts : Kept → List KeptParts
@@ -47,8 +47,8 @@ Charge kept parts = charges_from beginning kept parts
 
 -- ---- the same, where these names are set before the first unit
 
-unfoldable pub FreshFrom : List (Name × WideTree) → Kept → Kept
-FreshFrom start kept = fresh_from (beginning_with start) (units_of kept)
+unfoldable pub FreshTracesFrom : List (Name × WideTree) → Kept → Kept
+FreshTracesFrom start kept = fresh_from (beginning_with start) (units_of kept)
 
 unfoldable pub FreshPartsFrom : List (Name × WideTree) → Kept → List KeptParts
 FreshPartsFrom start kept = fresh_parts_from (beginning_with start) (units_of kept)
@@ -80,8 +80,8 @@ KnowsLayers start sheller kept layers = AllLayersKnown sheller (beginning_with s
 -- ---- through an edit
 
 -- what stays of what is kept through the modifications of a buffer, by which its tree t changes
-unfoldable pub Carry : ℕ → List Mod → WideTree → Kept → List DocUnit → Kept
-Carry buffer ms t kept us = carried (mods_of buffer ms) t kept us
+unfoldable pub CarryTraces : ℕ → List Mod → WideTree → Kept → List DocUnit → Kept
+CarryTraces buffer ms t kept us = carried (mods_of buffer ms) t kept us
 
 -- The parts of old units that are none of the new ones, and the strays, with the new units in which they stand behind
 -- the modifications of a buffer, by which its tree t changes. The old units are us, this is kept of their parts and of

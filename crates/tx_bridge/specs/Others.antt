@@ -32,8 +32,8 @@ kept_others p ps [] places = []
 kept_others p ps (n ∷ ns) [] = []
 kept_others p ps (n ∷ ns) (place ∷ places) = (n, kept_there p ps n place) ∷ kept_others p ps ns places
 
-abbrev pub kept_of : List (ℕ × Option DonePart) → List (ℕ × Option Stored)
-kept_of os = map (λ o. (o.0, option_map kept_part o.1)) os
+abbrev pub stored_of : List (ℕ × Option DonePart) → List (ℕ × Option Stored)
+stored_of os = map (λ o. (o.0, option_map kept_part o.1)) os
 
 -- ---- others are put in their places
 
@@ -49,5 +49,5 @@ put_from i (o ∷ os) (x ∷ xs) =
     if o.0 == i then and_some o.1 (put_from (i + 1) os xs) else x ∷ put_from (i + 1) (o ∷ os) xs
 
 -- what is kept of the parts of the entry of number i, and none past the last one
-abbrev pub parts_of : ℕ → List Bridge → List DonePart
-parts_of i bs = option_map_or (λ b. b.parts) (slice_get bs i) []
+abbrev pub done_parts_of : ℕ → List Bridge → List DonePart
+done_parts_of i bs = option_map_or (λ b. b.parts) (slice_get bs i) []

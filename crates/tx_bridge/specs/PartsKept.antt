@@ -5,8 +5,8 @@ use Rattle.std.specs.FinMap.{get}
 use Rattle.std.specs.Str.{bytes_eq}
 use Rattle.tx_exec_form.specs.declared.TheConstants.{MOST_LEVELS}
 use Rattle.tx_exec_form.specs.Evaluated.{WideTrace}
-use Rattle.tx_parts.specs.Opening.{Sheller, closed}
-use Rattle.tx_parts.specs.Parts.{Part, parts_by, Stored, stored}
+use Rattle.tx_parts.specs.Opening.{Sheller, no_shells}
+use Rattle.tx_parts.specs.Parts.{Part, parts_by, Stored, stored_part}
 use Rattle.tx_walk.specs.Held.{Store, serves}
 use Rattle.tx_units.specs.declared.kinds.Unit.{Unit as DocUnit}
 use Rattle.tx_view_form.specs.Outcomes.{Moment, allowance, behind}
@@ -34,14 +34,14 @@ unit_parts_by sheller m u = parts_by sheller MOST_LEVELS (allowance m) [] u.tagg
 
 -- where nothing has a shell
 abbrev pub unit_parts : Moment → DocUnit → List Part
-unit_parts m u = unit_parts_by closed m u
+unit_parts m u = unit_parts_by no_shells m u
 
 -- ---- what evaluating from nothing leaves
 
 -- the parts with their traces, and none where the unit is over
 abbrev pub parts_if_done : Option WideTrace → List Part → KeptParts
 parts_if_done None ps = []
-parts_if_done (Some trace) ps = map stored ps
+parts_if_done (Some trace) ps = map stored_part ps
 
 -- what is to be kept of the parts of the unit, which is evaluated at this moment
 abbrev pub fresh_parts_by : Sheller → Moment → DocUnit → KeptParts
@@ -56,10 +56,10 @@ fresh_parts_by_from sheller m (u ∷ us) =
 
 -- where nothing has a shell
 abbrev pub fresh_parts : Moment → DocUnit → KeptParts
-fresh_parts m u = fresh_parts_by closed m u
+fresh_parts m u = fresh_parts_by no_shells m u
 
 abbrev pub fresh_parts_from : Moment → List DocUnit → List KeptParts
-fresh_parts_from m us = fresh_parts_by_from closed m us
+fresh_parts_from m us = fresh_parts_by_from no_shells m us
 
 -- ---- which parts are evaluated anew
 
@@ -82,10 +82,10 @@ part_flags_by_from sheller m (e ∷ es) (ks ∷ pss) =
 
 -- where nothing has a shell
 abbrev pub part_flags : Moment → DocUnit → KeptParts → List Bool
-part_flags m u ks = part_flags_by closed m u ks
+part_flags m u ks = part_flags_by no_shells m u ks
 
 abbrev pub part_flags_from : Moment → Kept → List KeptParts → List (List Bool)
-part_flags_from m es pss = part_flags_by_from closed m es pss
+part_flags_from m es pss = part_flags_by_from no_shells m es pss
 
 -- What is kept now of a part whose flag is false is what was kept at its path.
 abbrev pub PartsStay : List KeptParts → List KeptParts → List (List Bool) → Type 0

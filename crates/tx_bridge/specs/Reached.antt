@@ -4,16 +4,16 @@ use Rattle.std.specs.FinMap.{get}
 use Rattle.std.specs.Str.{bytes_eq}
 use Rattle.tx_exec_form.specs.Evaluated.{WideTrace}
 use Rattle.tx_view_form.specs.Outcomes.{Moment, allowance, behind}
-use Rattle.tx_parts.specs.Opening.{Sheller, closed}
+use Rattle.tx_parts.specs.Opening.{Sheller, no_shells}
 use Rattle.tx_parts.specs.Parts.{Part, Stored}
 use Rattle.tx_walk.specs.Held.{agrees, fits as part_fits}
 use Rattle.tx_bridge.specs.Entries.{Entry, Kept, outcome_of}
 use Rattle.tx_bridge.specs.PartsKept.{KeptParts, has_parts, unit_parts_by}
 
 -- what is kept can be used at the moment: the environment agrees with the looks, and the cost is allowed
-abbrev pub fits : Moment → Option WideTrace → Bool
-fits m None = false
-fits m (Some trace) = agrees (get m.env) trace.looks && nat_le trace.cost (allowance m)
+abbrev pub can_be_used : Moment → Option WideTrace → Bool
+can_be_used m None = false
+can_be_used m (Some trace) = agrees (get m.env) trace.looks && nat_le trace.cost (allowance m)
 
 -- this part is kept, and what is kept of it fits what names have before it
 abbrev pub is_kept : Stored → Part → Bool
@@ -30,7 +30,7 @@ are_kept (k ∷ ks) (p ∷ ps) = is_kept k p && are_kept ks ps
 -- parts may have been other ones where other trees had shells.
 abbrev pub unit_stays_by : Sheller → Moment → Entry → KeptParts → Bool
 unit_stays_by sheller m e ks =
-    fits m e.trace && (not (has_parts e.unit) || are_kept ks (unit_parts_by sheller m e.unit))
+    can_be_used m e.trace && (not (has_parts e.unit) || are_kept ks (unit_parts_by sheller m e.unit))
 
 -- what is kept of the parts of the first unit, and nothing past the end of the list
 abbrev pub first_parts : List KeptParts → KeptParts
@@ -46,7 +46,7 @@ reached_by_from sheller m (e ∷ es) pss =
 
 -- where nothing has a shell
 abbrev pub unit_stays : Moment → Entry → KeptParts → Bool
-unit_stays m e ks = unit_stays_by closed m e ks
+unit_stays m e ks = unit_stays_by no_shells m e ks
 
 abbrev pub reached_from : Moment → Kept → List KeptParts → List Bool
-reached_from m es pss = reached_by_from closed m es pss
+reached_from m es pss = reached_by_from no_shells m es pss

@@ -8,7 +8,7 @@ use Rattle.tx_exec.specs.declared.outcome.Outcome.TheVariants.{Over}
 use Rattle.tx_units.specs.declared.kinds.Unit.{Unit as DocUnit}
 use Rattle.tx_bridge.specs.declared.bridge.Bridge.{Bridge}
 use Rattle.tx_bridge.specs.Carrying.{is_path, same_unit, through}
-use Rattle.tx_bridge.specs.UnitLists.{IsPlaced}
+use Rattle.tx_bridge.specs.UnitLists.{HasPathIfBody}
 use Rattle.tx_bridge.specs.InPlace.{is_changed}
 
 -- whether the old unit u of number i, which stands at the place now, is the new unit v of number j
@@ -61,12 +61,12 @@ abbrev pub given : List Mod → WideTree → List Bridge → List DocUnit → Li
 given ms t old us = given_all 0 (map (through ms t) (paths_in old)) old (map fresh_bridge us)
 
 -- no two units have one path
-abbrev pub AreApart : List Bridge → Type 0
-AreApart bs = (j k : ℕ) (v w : Bridge) (p : List ℕ) → slice_get bs j ≡ Some v → slice_get bs k ≡ Some w
+abbrev pub HaveOwnPaths : List Bridge → Type 0
+HaveOwnPaths bs = (j k : ℕ) (v w : Bridge) (p : List ℕ) → slice_get bs j ≡ Some v → slice_get bs k ≡ Some w
     → v.unit.path ≡ Some p → w.unit.path ≡ Some p → j ≡ k
 
 abbrev pub AllPlaced : List Bridge → Type 0
-AllPlaced bs = (k : ℕ) (b : Bridge) → slice_get bs k ≡ Some b → IsPlaced b.unit
+AllPlaced bs = (k : ℕ) (b : Bridge) → slice_get bs k ≡ Some b → HasPathIfBody b.unit
 
 abbrev pub is_at : ℕ → Option ℕ → Bool
 is_at k None = false

@@ -14,7 +14,7 @@ use Rattle.tx_units.specs.Units.{unit_with}
 use Rattle.tx_bridge.specs.declared.bridge.Bridge.{Bridge}
 use Rattle.tx_bridge.specs.declared.bridge.Way.{Way}
 use Rattle.tx_bridge.specs.declared.bridge.Way.TheVariants.{Listed, InPlace}
-use Rattle.tx_bridge.specs.UnitLists.{IsPlaced, AreUnits}
+use Rattle.tx_bridge.specs.UnitLists.{HasPathIfBody, AreUnits}
 use Rattle.tx_bridge.specs.Entries.{Entry, Kept, units_of}
 use Rattle.tx_bridge.specs.Settled.{AreSettled}
 use Rattle.tx_bridge.specs.PartsKept.{KeptParts}
@@ -27,24 +27,24 @@ use Rattle.tx_bridge.specs.Strays.{AreStrays, AreTidy, strays_in}
 
 -- A trace that is kept is the tree's, with no more levels than there are, in every environment that agrees with its
 -- looks.
-abbrev pub Holds : Option WideTrace → TaggedTree → Type 0
-Holds None t = Unit {0}
-Holds (Some trace) t = Supports trace t × (trace.height ≤ MOST_LEVELS)
+abbrev pub TraceHolds : Option WideTrace → TaggedTree → Type 0
+TraceHolds None t = Unit {0}
+TraceHolds (Some trace) t = Supports trace t × (trace.height ≤ MOST_LEVELS)
 
 -- what is kept of each unit supports its tree
 abbrev pub AllHold : Kept → Type 0
-AllHold es = All (λ e. Holds e.trace (tagged_of e.unit.tagged)) es
+AllHold es = All (λ e. TraceHolds e.trace (tagged_of e.unit.tagged)) es
 
 -- ---- the same of the program's entries
 
-abbrev pub entry_of : Bridge → Entry
-entry_of b = record { unit = b.unit; trace = wide_outcome b.kept }
+abbrev pub kept_unit : Bridge → Entry
+kept_unit b = record { unit = b.unit; trace = wide_outcome b.kept }
 
 abbrev pub entries_of : List Bridge → Kept
-entries_of bs = map entry_of bs
+entries_of bs = map kept_unit bs
 
-abbrev pub parts_in : List Bridge → List KeptParts
-parts_in bs = map (λ b. kept_parts b.parts) bs
+abbrev pub stored_parts_in : List Bridge → List KeptParts
+stored_parts_in bs = map (λ b. kept_parts b.parts) bs
 
 abbrev pub part_flags_in : List Bridge → List (List Bool)
 part_flags_in bs = map (λ b. flags_of_parts b.parts) bs
@@ -87,16 +87,16 @@ changed_in i t ps [] = []
 changed_in zero t ps (b ∷ bs) = changed_bridge t ps b ∷ bs
 changed_in (suc i) t ps (b ∷ bs) = b ∷ changed_in i t ps bs
 
-pub record IsSound (b : Bridge) : Type 0 where
-  pub holds : Holds (wide_outcome b.kept) (tagged_of b.unit.tagged)
+pub record IsSoundBridge (b : Bridge) : Type 0 where
+  pub holds : TraceHolds (wide_outcome b.kept) (tagged_of b.unit.tagged)
   pub once : NamesOnce b.kept
-  pub placed : IsPlaced b.unit
+  pub placed : HasPathIfBody b.unit
   pub parts : PartsHold b.shelled b.unit (wide_outcome b.kept) b.parts
 
 -- Each entry is sound, the units are such as documents have, and where the flag is set, all settle in themselves.
 -- Strays hold, and stand in no unit.
 pub record AreRight (flag : Bool) (bs : List Bridge) (ss : List DoneStray) : Type 0 where
-  pub sound : All IsSound bs
+  pub sound : All IsSoundBridge bs
   pub units : AreUnits (units_of (entries_of bs))
   pub settled : flag ≡ true → AreSettled empty (entries_of bs)
   pub strays : AreStrays (units_of (entries_of bs)) (strays_in ss)

@@ -13,7 +13,7 @@ use Rattle.tx_units.specs.declared.kinds.Unit.{Unit as DocUnit}
 use Rattle.tx_walk.specs.Walked.{IsTidy}
 use Rattle.tx_bridge.specs.declared.strays.Stray.{Stray as DoneStray}
 use Rattle.tx_bridge.specs.HeldParts.{kept_part}
-use Rattle.tx_bridge.specs.InPlace.{begins}
+use Rattle.tx_bridge.specs.InPlace.{begins_path}
 use Rattle.tx_bridge.specs.PartMoves.{NoneAbove}
 use Rattle.tx_bridge.specs.PartsKept.{KeptParts}
 
@@ -48,7 +48,7 @@ StandAside t ss = AllByRecursion (λ s. subtree t s.kept.path ≡ Some s.tree) s
 -- the path, if there is one, doesn't begin with the place
 abbrev pub is_beside : Option (List ℕ) → List ℕ → Bool
 is_beside None place = true
-is_beside (Some p) place = not (begins place p)
+is_beside (Some p) place = not (begins_path place p)
 
 -- the path that the unit of number i has
 abbrev pub path_at : ℕ → List DocUnit → Option (List ℕ)

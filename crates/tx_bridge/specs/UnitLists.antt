@@ -7,19 +7,19 @@ use Rattle.tx_units.specs.declared.kinds.UnitKind.{UnitKind}
 use Rattle.tx_units.specs.declared.kinds.UnitKind.TheVariants.{Base, Style, Absent, Initial, Body}
 use Rattle.tx_units.specs.Places.{NoneBegins}
 
-abbrev pub is_body : UnitKind → Bool
-is_body Base = false
-is_body (Style k) = false
-is_body Absent = false
-is_body Initial = false
-is_body Body = true
+abbrev pub is_body_unit : UnitKind → Bool
+is_body_unit Base = false
+is_body_unit (Style k) = false
+is_body_unit Absent = false
+is_body_unit Initial = false
+is_body_unit Body = true
 
 -- A paragraph of the body has a path, and the root is its origin. No other unit has a path or an origin.
-pub record IsPlaced (u : DocUnit) : Type 0 where
-  pub path : is_some u.path ≡ is_body u.kind
+pub record HasPathIfBody (u : DocUnit) : Type 0 where
+  pub path : is_some u.path ≡ is_body_unit u.kind
   pub origin : u.tagged.at ≡ option_map (λ _. []) u.path
 
 -- so it is of each, and no path is another's or begins it
 pub record AreUnits (us : List DocUnit) : Type 0 where
-  pub placed : AllByRecursion IsPlaced us
+  pub placed : AllByRecursion HasPathIfBody us
   pub apart : NoneBegins us

@@ -4,18 +4,18 @@ ghost use Rattle.std.specs.Prelude.{MatchOption, IfSome, option_copied, ◌&&◌
 ghost use Rattle.tx_exec.specs.Outcomes.{wide_outcome, NamesOnce};
 ghost use Rattle.tx_view_form.specs.Outcomes.{behind, env_behind};
 ghost use Rattle.tx_bridge.specs.Entries.{outcome_of};
-ghost use Rattle.tx_bridge.specs.Reached.{fits};
+ghost use Rattle.tx_bridge.specs.Reached.{can_be_used};
 ghost use Rattle.tx_parts.specs.Opening.{opens_nothing, shells_by};
 ghost use Rattle.tx_bridge.specs.Reached.{unit_stays_by};
 ghost use Rattle.tx_bridge.specs.PartsKept.{has_parts, fresh_parts_by, part_flags_by};
-ghost use Rattle.tx_bridge.specs.Charges.{whole_charge, unit_charge_by, charge_by, LayersKnown};
+ghost use Rattle.tx_bridge.specs.Charges.{whole_charge, unit_charge_by, charge_by, UnitLayersKnown};
 ghost use Rattle.tx_bridge.specs.Lent.{spare_of, spare_parts, spare_layers, IsSpareOf, IsUsable};
 ghost use Rattle.tx_bridge.specs.HeldParts.{PartsHold, kept_parts, flags_of_parts, unmarked};
 ghost use Rattle.tx_bridge.specs.Settled.{AgreesWith, IsSilent};
-ghost use Rattle.tx_bridge.specs.Sound.{IsSound, entry_of, changed_bridge};
+ghost use Rattle.tx_bridge.specs.Sound.{IsSoundBridge, kept_unit, changed_bridge};
 ghost use Rattle.tx_bridge.specs.Others.{put_from};
 
-use crate::fitting::{fits, is_silent, stays_kept};
+use crate::fitting::{can_be_used, is_silent, stays_kept};
 use crate::moments::{Evaluated, Moment};
 use crate::unit_layers::UnitLayers;
 use crate::unit_parts::{UnitParts, has_parts};
@@ -161,13 +161,13 @@ impl Bridge {
     // What is spare of the unit, where that can be used at the moment.
     fn usable<'a>(&self, moment: &Moment, spare: Option<&'a Bridge>) -> Option<&'a Outcome>
         requires spare { IfSome (option_copied spare) (IsSpareOf self.now.unit) }
-        ensures { MatchOption result (fits moment.now (spare_of (option_copied spare.entry)).trace ≡ false)
+        ensures { MatchOption result (can_be_used moment.now (spare_of (option_copied spare.entry)).trace ≡ false)
             (λ o. IsUsable moment.now self.now.unit (option_copied spare.entry) o.now) }
     {
         match spare {
             None => None,
             Some(other) => {
-                if fits(moment, &other.kept, false) {
+                if can_be_used(moment, &other.kept, false) {
                     Some(&other.kept)
                 } else {
                     None
@@ -223,7 +223,7 @@ impl Bridge {
         spare: Option<&Bridge>,
         steps: &mut Steps<L>,
     ) -> Result<Evaluated, Memory>
-        requires sound { IsSound self.now }
+        requires sound { IsSoundBridge self.now }
         requires spare { IfSome (option_copied spare) (IsSpareOf self.now.unit) }
         requires shut { shelled ≡ false → O.opens opener.now ≡ opens_nothing }
         ensures exact { IfOk result (λ e. wide_outcome e.outcome ≡ outcome_of moment.old self.now.unit) }
@@ -236,7 +236,7 @@ impl Bridge {
         ensures charge { IfOk result (λ e. e.charge
             ≡ unit_charge_by (shells_by (O.opens opener.now)) moment.old self.now.unit
             (kept_parts self.now.parts) self.now.layers (spare_of (option_copied spare.entry))) }
-        ensures layers { IfOk result (λ e. LayersKnown (shells_by (O.opens opener.now)) moment.old self.now.unit
+        ensures layers { IfOk result (λ e. UnitLayersKnown (shells_by (O.opens opener.now)) moment.old self.now.unit
             e.layers) }
         ensures counted { IfOk result (λ e. steps.new ≡ steps.old + e.charge) }
         ensures moment { moment.new ≡ moment.old }
@@ -273,8 +273,8 @@ impl Bridge {
         spare: Option<&Bridge>,
         steps: &mut Steps<L>,
     ) -> Result<u64, Memory>
-        requires sound { IsSound self.old }
-        requires used { used ≡ fits moment.old (wide_outcome self.old.kept) }
+        requires sound { IsSoundBridge self.old }
+        requires used { used ≡ can_be_used moment.old (wide_outcome self.old.kept) }
         requires bare { has_parts self.old.unit ≡ false → used ≡ false }
         requires spare { IfSome (option_copied spare) (IsSpareOf self.old.unit) }
         requires shut { shelled ≡ false → O.opens opener.now ≡ opens_nothing }
@@ -286,17 +286,17 @@ impl Bridge {
         ensures flags { OnOk result (flags_of_parts self.new.parts
             ≡ part_flags_by (shells_by (O.opens opener.now)) moment.old self.old.unit (kept_parts self.old.parts)) }
         ensures renewed { OnOk result (self.new.renewed
-            ≡ not (unit_stays_by (shells_by (O.opens opener.now)) moment.old (entry_of self.old)
+            ≡ not (unit_stays_by (shells_by (O.opens opener.now)) moment.old (kept_unit self.old)
             (kept_parts self.old.parts))) }
         ensures stays { self.new.renewed ≡ false → wide_outcome self.new.kept ≡ wide_outcome self.old.kept }
         ensures parts_same { self.new.renewed ≡ false → kept_parts self.new.parts ≡ kept_parts self.old.parts }
         ensures moment { moment.new ≡ moment.old }
         ensures charge { IfOk result (λ n. n ≡ unit_charge_by (shells_by (O.opens opener.now)) moment.old self.old.unit
             (kept_parts self.old.parts) self.old.layers (spare_of (option_copied spare.entry))) }
-        ensures layers { OnOk result (LayersKnown (shells_by (O.opens opener.now)) moment.old self.old.unit
+        ensures layers { OnOk result (UnitLayersKnown (shells_by (O.opens opener.now)) moment.old self.old.unit
             self.new.layers) }
         ensures counted { IfOk result (λ n. steps.new ≡ steps.old + n) }
-        ensures sound { IsSound self.new }
+        ensures sound { IsSoundBridge self.new }
         ensures err { OnErr result (self.new ≡ self.old) }
     {
         trace_laws();
@@ -339,7 +339,7 @@ impl Bridge {
         spare: Option<&Bridge>,
         steps: &mut Steps<L>,
     ) -> Result<(u64, bool), Memory>
-        requires sound { IsSound self.old }
+        requires sound { IsSoundBridge self.old }
         requires spare { IfSome (option_copied spare) (IsSpareOf self.old.unit) }
         requires settled { settled ≡ true → AgreesWith moment.old.env (wide_outcome self.old.kept) }
         requires shut { shelled ≡ false → O.opens opener.now ≡ opens_nothing }
@@ -351,7 +351,7 @@ impl Bridge {
         ensures flags { OnOk result (flags_of_parts self.new.parts
             ≡ part_flags_by (shells_by (O.opens opener.now)) moment.old self.old.unit (kept_parts self.old.parts)) }
         ensures renewed { OnOk result (self.new.renewed
-            ≡ not (unit_stays_by (shells_by (O.opens opener.now)) moment.old (entry_of self.old)
+            ≡ not (unit_stays_by (shells_by (O.opens opener.now)) moment.old (kept_unit self.old)
             (kept_parts self.old.parts))) }
         ensures stays { self.new.renewed ≡ false → wide_outcome self.new.kept ≡ wide_outcome self.old.kept }
         ensures parts_same { self.new.renewed ≡ false → kept_parts self.new.parts ≡ kept_parts self.old.parts }
@@ -359,13 +359,13 @@ impl Bridge {
         ensures settled { IfOk result (λ p. p.1 ≡ true → (settled ≡ true)
             × (moment.new.env ≡ env_behind moment.old.env (wide_outcome self.old.kept))) }
         ensures charge { IfOk result (λ p. p.0
-            ≡ charge_by (shells_by (O.opens opener.now)) moment.old (entry_of self.old)
+            ≡ charge_by (shells_by (O.opens opener.now)) moment.old (kept_unit self.old)
             (kept_parts self.old.parts) self.old.layers (spare_of (option_copied spare.entry))) }
-        ensures layers { OnOk result (LayersKnown (shells_by (O.opens opener.now)) moment.old self.old.unit
+        ensures layers { OnOk result (UnitLayersKnown (shells_by (O.opens opener.now)) moment.old self.old.unit
             self.new.layers) }
         ensures counted { IfOk result (λ p. steps.new ≡ steps.old + p.0) }
         ensures most { IfOk result (λ p. p.0 + moment.new.left ≤ moment.old.left) }
-        ensures sound { IsSound self.new }
+        ensures sound { IsSoundBridge self.new }
         ensures err { OnErr result ((self.new ≡ self.old)
             ⊎ (wide_outcome self.new.kept ≡ outcome_of moment.old self.old.unit)
             × (kept_parts self.new.parts ≡ fresh_parts_by (shells_by (O.opens opener.now)) moment.old self.old.unit)) }
@@ -375,7 +375,7 @@ impl Bridge {
         opened_standing_law();
         opened_fitting_law();
         opened_cost_law();
-        let used = fits(moment, &self.kept, settled);
+        let used = can_be_used(moment, &self.kept, settled);
         if used && self.keeps_parts(shelled) {
             moment.go_behind(&self.kept)?;
             self.leave();

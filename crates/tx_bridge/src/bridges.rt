@@ -26,19 +26,21 @@ ghost use Rattle.tx_bridge.specs.Charges.{charges_by, AllLayersKnown};
 ghost use Rattle.tx_bridge.specs.Lent.{spares_in, HaveUnitsOf};
 ghost use Rattle.tx_bridge.specs.HeldParts.{AllPartsHold, kept_parts, flags_of_parts};
 ghost use Rattle.tx_bridge.specs.Settled.{AreSettled};
-ghost use Rattle.tx_bridge.specs.Sound.{IsSound, AllHold, entry_of, entries_of, parts_in, part_flags_in, flags_of};
+ghost use Rattle.tx_bridge.specs.Sound.{IsSoundBridge, AllHold, kept_unit, entries_of, stored_parts_in, part_flags_in};
+ghost use Rattle.tx_bridge.specs.Sound.{flags_of};
 ghost use Rattle.tx_bridge.specs.Sound.{layers_in, sources_in, source_by};
-ghost use Rattle.tx_bridge.specs.UnitLists.{AreUnits, IsPlaced};
+ghost use Rattle.tx_bridge.specs.UnitLists.{AreUnits, HasPathIfBody};
 ghost use Rattle.tx_bridge.specs.Carrying.{AllLead, AllStand, StandsNow, AreSameBodies, HaveSameTrees};
 ghost use Rattle.tx_bridge.specs.Carrying.{through, mods_of};
 ghost use Rattle.tx_bridge.specs.Slots.{paths_in};
 ghost use Rattle.tx_bridge.specs.Courses.{given_with, strays_left};
 ghost use Rattle.tx_mod.specs.declared.mods.Mod.{Mod as Change};
 ghost use Rattle.tx_bridge.specs.InPlace.{IsOneChanged, NoneChanged, numbers_but};
-ghost use Rattle.tx_bridge.specs.Names.{Empty, EmptyParts, Fresh, FreshParts, PartFlags, Charge};
-ghost use Rattle.tx_bridge.specs.Names.{FreshFrom, FreshPartsFrom, PartFlagsFrom, ChargeFrom};
+ghost use Rattle.tx_bridge.specs.Names.{EmptyTraces, EmptyParts, FreshTraces, FreshParts, PartFlags, Charge};
+ghost use Rattle.tx_bridge.specs.Names.{FreshTracesFrom, FreshPartsFrom, PartFlagsFrom, ChargeFrom};
 ghost use Rattle.tx_bridge.specs.Names.{FreshPartsBy, PartFlagsBy, ChargeBy, KnowsLayers};
-ghost use Rattle.tx_bridge.specs.Names.{Carry, CarryParts, CarryStrays, CarryWithin, IsCourse, PartMoves, Sources};
+ghost use Rattle.tx_bridge.specs.Names.{CarryTraces, CarryParts, CarryStrays, CarryWithin, IsCourse, PartMoves};
+ghost use Rattle.tx_bridge.specs.Names.{Sources};
 ghost use Rattle.tx_bridge.specs.Names.{CarryLayers, StraysBeside};
 ghost use Rattle.tx_bridge.specs.Strays.{AreStrays, StandAside, kept_strays};
 
@@ -78,7 +80,7 @@ pub struct Bridges {
 
 impl Model for Bridges {
     ghost use Rattle.tx_bridge.specs.Bridged.{Bridged, coded_Bridged};
-    ghost use Rattle.tx_bridge.specs.Sound.{AreRight, entries_of, parts_in, part_flags_in, layers_in};
+    ghost use Rattle.tx_bridge.specs.Sound.{AreRight, entries_of, stored_parts_in, part_flags_in, layers_in};
     ghost use Rattle.tx_bridge.specs.Sound.{flags_of, sources_by};
     ghost use Rattle.tx_bridge.specs.Strays.{strays_in};
 
@@ -88,7 +90,7 @@ impl Model for Bridges {
 
     ghost view = { λ b. record {
       kept = entries_of b.bridges.items;
-      parts = parts_in b.bridges.items;
+      parts = stored_parts_in b.bridges.items;
       part_flags = part_flags_in b.bridges.items;
       layers = layers_in b.bridges.items;
       renewed = flags_of b.bridges.items;
@@ -126,7 +128,7 @@ fn lent_bridges<'a>(spare: Option<&'a Bridges>) -> &'a [Bridge]
     ensures spares { spares_in result.now ≡ spares_of (option_copied spare.entry) }
     ensures kept { MatchOption (option_copied spare.entry) (result.now ≡ [])
         (λ others. entries_of result.now ≡ others.kept) }
-    ensures sound { All IsSound result.now }
+    ensures sound { All IsSoundBridge result.now }
 {
     match spare {
         None => &[],
@@ -158,36 +160,38 @@ fn refresh_all<O: Opener, L: Ledger>(
     spare: &[Bridge],
     steps: &mut Steps<L>,
 ) -> Result<u64, Memory>
-    requires sound { All IsSound bridges.old }
+    requires sound { All IsSoundBridge bridges.old }
     requires left { start.left ≤ MOST_VIEW_STEPS }
     requires settled { settled ≡ true → AreSettled start.env (entries_of bridges.old) }
-    requires spare { All IsSound spare.now }
+    requires spare { All IsSoundBridge spare.now }
     requires same { HaveUnitsOf spare.now bridges.old }
     requires shut { shelled ≡ false → O.opens opener.now ≡ opens_nothing }
     ensures fresh { OnOk result (entries_of bridges.new ≡ fresh_from start (units_of (entries_of bridges.old))) }
-    ensures parts { OnOk result (parts_in bridges.new
+    ensures parts { OnOk result (stored_parts_in bridges.new
         ≡ fresh_parts_by_from (shells_by (O.opens opener.now)) start (units_of (entries_of bridges.old))) }
     ensures parts_renewed { OnOk result (part_flags_in bridges.new
-        ≡ part_flags_by_from (shells_by (O.opens opener.now)) start (entries_of bridges.old) (parts_in bridges.old)) }
+        ≡ part_flags_by_from (shells_by (O.opens opener.now)) start (entries_of bridges.old) (stored_parts_in
+        bridges.old)) }
     ensures renewed { OnOk result (flags_of bridges.new
-        ≡ reached_by_from (shells_by (O.opens opener.now)) start (entries_of bridges.old) (parts_in bridges.old)) }
+        ≡ reached_by_from (shells_by (O.opens opener.now)) start (entries_of bridges.old) (stored_parts_in
+        bridges.old)) }
     ensures charge { IfOk result (λ n. n ≡ charges_by (shells_by (O.opens opener.now)) start (entries_of bridges.old)
-        (parts_in bridges.old) (layers_in bridges.old) (spares_in spare.now)) }
+        (stored_parts_in bridges.old) (layers_in bridges.old) (spares_in spare.now)) }
     ensures layers { OnOk result (AllLayersKnown (shells_by (O.opens opener.now)) start
         (units_of (entries_of bridges.old)) (layers_in bridges.new)) }
     ensures counted { IfOk result (λ n. steps.new ≡ steps.old + n) }
     ensures most { IfOk result (λ n. n ≤ MOST_VIEW_STEPS) }
-    ensures sound { All IsSound bridges.new }
+    ensures sound { All IsSoundBridge bridges.new }
     ensures units { units_of (entries_of bridges.new) ≡ units_of (entries_of bridges.old) }
     ensures sources { sources_in bridges.new ≡ sources_in bridges.old }
     ensures stays { (i : ℕ) → slice_get (flags_of bridges.new) i ≡ Some false
         → slice_get (entries_of bridges.new) i ≡ slice_get (entries_of bridges.old) i }
     ensures parts_same { OnOk result ((i : ℕ) → slice_get (flags_of bridges.new) i ≡ Some false
-        → slice_get (parts_in bridges.new) i ≡ slice_get (parts_in bridges.old) i) }
+        → slice_get (stored_parts_in bridges.new) i ≡ slice_get (stored_parts_in bridges.old) i) }
     ensures refused { OnErr result ((n : ℕ) × (entries_of bridges.new
         ≡ take n (fresh_from start (units_of (entries_of bridges.old))) ++ drop n (entries_of bridges.old))
-        × (parts_in bridges.new ≡ take n (fresh_parts_by_from (shells_by (O.opens opener.now)) start
-        (units_of (entries_of bridges.old))) ++ drop n (parts_in bridges.old))
+        × (stored_parts_in bridges.new ≡ take n (fresh_parts_by_from (shells_by (O.opens opener.now)) start
+        (units_of (entries_of bridges.old))) ++ drop n (stored_parts_in bridges.old))
         × (drop n (layers_in bridges.new) ≡ drop n (layers_in bridges.old))) }
 {
     let mut moment = start;
@@ -212,7 +216,7 @@ fn refresh_all<O: Opener, L: Ledger>(
 
 // The moment behind all units, of each of which is kept what it comes to from this moment on.
 fn moment_behind(start: Moment, bridges: &[Bridge]) -> Result<Moment, Memory>
-    requires sound { All IsSound bridges.now }
+    requires sound { All IsSoundBridge bridges.now }
     requires fresh { entries_of bridges.now ≡ fresh_from start (units_of (entries_of bridges.now)) }
     ensures { IfOk result (λ m. m ≡ behind_all start (units_of (entries_of bridges.now))) }
 {
@@ -234,7 +238,7 @@ fn give_over(
     course: Course,
 ) -> Result<(), Memory>
     requires units { AreUnits units.items }
-    requires sound { All IsSound bridges.old.items }
+    requires sound { All IsSoundBridge bridges.old.items }
     requires places { (ms : List Change) × (t : WideTree)
         × (course.places.items ≡ map (through ms t) (paths_in bridges.old.items)) }
     ensures given { OnOk result ((ms : List Change) (t : WideTree)
@@ -265,10 +269,10 @@ fn source_of(way: Way, bridge: &Bridge, i: usize) -> Option<usize>
 
 impl Bridges {
     /// The units, with nothing kept.
-    #[tactic(auto, unfolding(crate::specs::Names::Empty, crate::specs::Names::EmptyParts))]
+    #[tactic(auto, unfolding(crate::specs::Names::EmptyTraces, crate::specs::Names::EmptyParts))]
     pub fn start(alloc: Global, units: Vec<Unit>) -> Result<Bridges, Memory>
         requires units { AreUnits units.items }
-        ensures empty { IfOk result (λ b. b.kept ≡ Empty units.items) }
+        ensures empty { IfOk result (λ b. b.kept ≡ EmptyTraces units.items) }
         ensures parts { IfOk result (λ b. b.parts ≡ EmptyParts units.items) }
         ensures units { IfOk result (λ b. units_of b.kept ≡ units.items) }
         ensures sources { IfOk result (λ b. b.sources ≡ map (λ u. None) units.items) }
@@ -294,7 +298,7 @@ impl Bridges {
     /// For want of memory the units before some number are brought there, and the others are as they were, as strays
     /// are.
     pub fn refresh<L: Ledger>(&mut self, alloc: Global, steps: &mut Steps<L>) -> Result<u64, Memory>
-        ensures fresh { OnOk result (self.new.kept ≡ Fresh self.old.kept) }
+        ensures fresh { OnOk result (self.new.kept ≡ FreshTraces self.old.kept) }
         ensures parts { OnOk result (self.new.parts ≡ FreshParts self.old.kept) }
         ensures parts_renewed { OnOk result (self.new.part_flags ≡ PartFlags self.old.kept self.old.parts) }
         ensures parts_stay { OnOk result (PartsStay self.old.parts self.new.parts self.new.part_flags) }
@@ -309,7 +313,7 @@ impl Bridges {
         ensures stays { (i : ℕ) → slice_get self.new.renewed i ≡ Some false
             → slice_get self.new.kept i ≡ slice_get self.old.kept i }
         ensures refused { OnErr result ((n : ℕ) × (self.new.kept
-            ≡ take n (Fresh self.old.kept) ++ drop n self.old.kept)
+            ≡ take n (FreshTraces self.old.kept) ++ drop n self.old.kept)
             × (self.new.parts ≡ take n (FreshParts self.old.kept) ++ drop n self.old.parts)) }
         ensures strays { OnOk result (self.new.strays ≡ []) }
         ensures strays_stay { OnErr result (self.new.strays ≡ self.old.strays) }
@@ -333,7 +337,7 @@ impl Bridges {
         steps: &mut Steps<L>,
     ) -> Result<u64, Memory>
         requires same { IfSome (option_copied spare) (λ others. units_of others.kept ≡ units_of self.old.kept) }
-        ensures fresh { OnOk result (self.new.kept ≡ FreshFrom start.now self.old.kept) }
+        ensures fresh { OnOk result (self.new.kept ≡ FreshTracesFrom start.now self.old.kept) }
         ensures parts { OnOk result (self.new.parts ≡ FreshPartsFrom start.now self.old.kept) }
         ensures parts_renewed { OnOk result
             (self.new.part_flags ≡ PartFlagsFrom start.now self.old.kept self.old.parts) }
@@ -351,7 +355,7 @@ impl Bridges {
         ensures stays { (i : ℕ) → slice_get self.new.renewed i ≡ Some false
             → slice_get self.new.kept i ≡ slice_get self.old.kept i }
         ensures refused { OnErr result ((n : ℕ) × (self.new.kept
-            ≡ take n (FreshFrom start.now self.old.kept) ++ drop n self.old.kept)
+            ≡ take n (FreshTracesFrom start.now self.old.kept) ++ drop n self.old.kept)
             × (self.new.parts ≡ take n (FreshPartsFrom start.now self.old.kept) ++ drop n self.old.parts)) }
         ensures strays { OnOk result (self.new.strays ≡ []) }
         ensures strays_stay { OnErr result (self.new.strays ≡ self.old.strays) }
@@ -377,7 +381,7 @@ impl Bridges {
         steps: &mut Steps<L>,
     ) -> Result<u64, Memory>
         requires same { IfSome (option_copied spare) (λ others. units_of others.kept ≡ units_of self.old.kept) }
-        ensures fresh { OnOk result (self.new.kept ≡ FreshFrom start.now self.old.kept) }
+        ensures fresh { OnOk result (self.new.kept ≡ FreshTracesFrom start.now self.old.kept) }
         ensures parts { OnOk result
             (self.new.parts ≡ FreshPartsBy start.now (shells_by (O.opens opener.now)) self.old.kept) }
         ensures parts_renewed { OnOk result (self.new.part_flags
@@ -398,7 +402,7 @@ impl Bridges {
         ensures stays { (i : ℕ) → slice_get self.new.renewed i ≡ Some false
             → slice_get self.new.kept i ≡ slice_get self.old.kept i }
         ensures refused { OnErr result ((n : ℕ) × (self.new.kept
-            ≡ take n (FreshFrom start.now self.old.kept) ++ drop n self.old.kept)
+            ≡ take n (FreshTracesFrom start.now self.old.kept) ++ drop n self.old.kept)
             × (self.new.parts ≡ take n (FreshPartsBy start.now (shells_by (O.opens opener.now)) self.old.kept)
             ++ drop n self.old.parts)
             × (drop n self.new.layers ≡ drop n self.old.layers)) }
@@ -409,7 +413,7 @@ impl Bridges {
     }
 
     // The same. Where it isn't `shelled`, the opener opens nothing.
-    #[tactic(auto, unfolding(crate::specs::Names::FreshFrom, crate::specs::Names::FreshPartsBy))]
+    #[tactic(auto, unfolding(crate::specs::Names::FreshTracesFrom, crate::specs::Names::FreshPartsBy))]
     fn refresh_by<O: Opener, L: Ledger>(
         &mut self,
         alloc: Global,
@@ -421,7 +425,7 @@ impl Bridges {
     ) -> Result<u64, Memory>
         requires same { IfSome (option_copied spare) (λ others. units_of others.kept ≡ units_of self.old.kept) }
         requires shut { shelled ≡ false → O.opens opener.now ≡ opens_nothing }
-        ensures fresh { OnOk result (self.new.kept ≡ FreshFrom start.now self.old.kept) }
+        ensures fresh { OnOk result (self.new.kept ≡ FreshTracesFrom start.now self.old.kept) }
         ensures parts { OnOk result
             (self.new.parts ≡ FreshPartsBy start.now (shells_by (O.opens opener.now)) self.old.kept) }
         ensures parts_renewed { OnOk result (self.new.part_flags
@@ -442,7 +446,7 @@ impl Bridges {
         ensures stays { (i : ℕ) → slice_get self.new.renewed i ≡ Some false
             → slice_get self.new.kept i ≡ slice_get self.old.kept i }
         ensures refused { OnErr result ((n : ℕ) × (self.new.kept
-            ≡ take n (FreshFrom start.now self.old.kept) ++ drop n self.old.kept)
+            ≡ take n (FreshTracesFrom start.now self.old.kept) ++ drop n self.old.kept)
             × (self.new.parts ≡ take n (FreshPartsBy start.now (shells_by (O.opens opener.now)) self.old.kept)
             ++ drop n self.old.parts)
             × (drop n self.new.layers ≡ drop n self.old.layers)) }
@@ -498,7 +502,8 @@ impl Bridges {
             → AllStand u units.items }
         requires same { (buffer ≡ 0 → ⊥) → AreSameBodies (units_of self.old.kept) units.items }
         requires strays { buffer ≡ 0 → StandAside before.now self.old.strays }
-        ensures carried { OnOk result (self.new.kept ≡ Carry buffer mods.now before.now self.old.kept units.items) }
+        ensures carried { OnOk result (self.new.kept ≡ CarryTraces buffer mods.now before.now self.old.kept
+            units.items) }
         ensures parts { OnOk result (self.new.parts ≡ CarryParts self.old.parts
             (PartMoves buffer mods.now before.now (units_of self.old.kept) self.old.parts
             (kept_strays self.old.strays) units.items)
@@ -577,7 +582,8 @@ impl Bridges {
         requires strays { buffer ≡ 0 → StandAside before.now self.old.strays }
         requires course { IsCourse buffer mods.now before.now (units_of self.old.kept) self.old.parts self.old.strays
             units.items course }
-        ensures carried { OnOk result (self.new.kept ≡ Carry buffer mods.now before.now self.old.kept units.items) }
+        ensures carried { OnOk result (self.new.kept ≡ CarryTraces buffer mods.now before.now self.old.kept
+            units.items) }
         ensures parts { OnOk result (self.new.parts ≡ CarryParts self.old.parts
             (PartMoves buffer mods.now before.now (units_of self.old.kept) self.old.parts
             (kept_strays self.old.strays) units.items)
@@ -661,7 +667,7 @@ impl Bridges {
         requires moved { (u : DocUnit) (ks : KeptParts) → slice_get (units_of self.old.kept) changed ≡ Some u
             → slice_get self.old.parts changed ≡ Some ks → AreMovedParts mods.now before.now u ks moved.items }
         requires strays { StandAside before.now self.old.strays }
-        ensures carried { self.new.kept ≡ Carry 0 mods.now before.now self.old.kept
+        ensures carried { self.new.kept ≡ CarryTraces 0 mods.now before.now self.old.kept
             (units_with changed tree (units_of self.old.kept)) }
         ensures parts { self.new.parts
             ≡ CarryWithin changed mods.now before.now (units_of self.old.kept) self.old.parts }
@@ -734,7 +740,7 @@ impl Bridges {
     pub fn unit(&self, i: u32) -> Option<&Unit>
         ensures found { MatchOption result (slice_get self.now.kept i ≡ None)
             (λ u. option_map (λ e. e.unit) (slice_get self.now.kept i) ≡ Some u.now) }
-        ensures placed { IfSome result (λ u. IsPlaced u.now) }
+        ensures placed { IfSome result (λ u. HasPathIfBody u.now) }
     {
         match self.bridges.get(i as usize) {
             None => None,

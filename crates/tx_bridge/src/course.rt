@@ -20,7 +20,7 @@ ghost use Rattle.tx_bridge.specs.PartMoves.{NoneAbove, rest_in, is_vacant, unit_
 ghost use Rattle.tx_bridge.specs.PartMoves.{unit_moves, moves_from, move_aside, moves_aside, part_moves, AreMoves};
 ghost use Rattle.tx_bridge.specs.PartMoves.{is_outside, seen_move};
 ghost use Rattle.tx_bridge.specs.Slots.{bodies_of, paths_in};
-ghost use Rattle.tx_bridge.specs.Sound.{IsSound, parts_in};
+ghost use Rattle.tx_bridge.specs.Sound.{IsSoundBridge, stored_parts_in};
 ghost use Rattle.tx_bridge.specs.Strays.{Stray as WideStray, HoldsStray, StandAside, AreTidy, kept_strays, stray_of};
 ghost use Rattle.tx_bridge.specs.Strays.{strays_in};
 
@@ -453,7 +453,7 @@ fn add_unit_moves(
     requires order { IfSome order (λ o. AreAligned o.first o.depth units.now) }
     requires passage { (t : WideTree) × IsPassage mods.now t trees.now × Stands t bridge.now.unit
         × (place.now ≡ through mods.now t bridge.now.unit.path) }
-    requires sound { IsSound bridge.now }
+    requires sound { IsSoundBridge bridge.now }
     ensures moves { OnOk result ((t : WideTree) → IsPassage mods.now t trees.now → Stands t bridge.now.unit
         → place.now ≡ through mods.now t bridge.now.unit.path → map seen_move moves.new.items
         ≡ map seen_move moves.old.items
@@ -501,10 +501,11 @@ fn moves_of(
     requires order { IfSome order (λ o. AreAligned o.first o.depth units.now) }
     requires passage { (t : WideTree) × IsPassage mods.now t trees.now × AllStand t (bodies_of bridges.now)
         × (places.now ≡ map (through mods.now t) (paths_in bridges.now)) }
-    requires sound { All IsSound bridges.now }
+    requires sound { All IsSoundBridge bridges.now }
     ensures moves { IfOk result (λ v. (t : WideTree) → IsPassage mods.now t trees.now
         → AllStand t (bodies_of bridges.now) → places.now ≡ map (through mods.now t) (paths_in bridges.now)
-        → map seen_move v.items ≡ moves_from mods.now t units.now 0 (bodies_of bridges.now) (parts_in bridges.now)) }
+        → map seen_move v.items ≡ moves_from mods.now t units.now 0 (bodies_of bridges.now) (stored_parts_in
+        bridges.now)) }
     ensures tidy { IfOk result (λ v. All (λ m. IsTidy m.part) v.items) }
     ensures trees { IfOk result (λ v. (t : WideTree) → IsPassage mods.now t trees.now
         → AllStand t (bodies_of bridges.now)
@@ -590,14 +591,14 @@ fn document_course<L: Ledger>(
     requires applies { (u : WideTree) × (changed_by_all mods.now before.now ≡ Some u) }
     requires apart { NoneBegins units.now }
     requires stand { AllStand before.now (bodies_of bridges.now) }
-    requires sound { All IsSound bridges.now }
+    requires sound { All IsSoundBridge bridges.now }
     requires aside { StandAside before.now (strays_in strays.now) }
     requires hold { AllByRecursion HoldsStray (strays_in strays.now) }
     requires tidy { AreTidy strays.now }
     ensures places { IfOk result
         (λ c. c.places.items ≡ map (through mods.now before.now) (paths_in bridges.now)) }
     ensures moves { IfOk result (λ c. AreMoves (part_moves 0 mods.now before.now (bodies_of bridges.now)
-        (parts_in bridges.now) (kept_strays (strays_in strays.now)) units.now) c.moves.items) }
+        (stored_parts_in bridges.now) (kept_strays (strays_in strays.now)) units.now) c.moves.items) }
     ensures trees { IfOk result (λ c. All
         (HasTree (λ u. changed_by_all mods.now before.now ≡ Some u) (length units.now)) c.moves.items) }
     ensures counted { steps.new ≤ steps.old + cost_of mods.now }
@@ -723,14 +724,14 @@ pub(crate) fn edit_course<L: Ledger>(
     requires applies { (u : WideTree) × (changed_by_all mods.now before.now ≡ Some u) }
     requires apart { NoneBegins units.now }
     requires stand { buffer ≡ 0 → AllStand before.now (bodies_of bridges.now) }
-    requires sound { All IsSound bridges.now }
+    requires sound { All IsSoundBridge bridges.now }
     requires aside { buffer ≡ 0 → StandAside before.now (strays_in strays.now) }
     requires hold { AllByRecursion HoldsStray (strays_in strays.now) }
     requires tidy { AreTidy strays.now }
     ensures places { IfOk result (λ c. c.places.items
         ≡ map (through (mods_of buffer mods.now) before.now) (paths_in bridges.now)) }
     ensures moves { IfOk result (λ c. AreMoves (part_moves buffer mods.now before.now (bodies_of bridges.now)
-        (parts_in bridges.now) (kept_strays (strays_in strays.now)) units.now) c.moves.items) }
+        (stored_parts_in bridges.now) (kept_strays (strays_in strays.now)) units.now) c.moves.items) }
     ensures trees { IfOk result (λ c. All
         (HasTree (MayFollow buffer mods.now before.now (strays_in strays.now)) (length units.now)) c.moves.items) }
     ensures counted { steps.new ≤ steps.old + cost_of mods.now }

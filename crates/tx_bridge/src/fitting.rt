@@ -5,7 +5,7 @@ ghost use Rattle.std.specs.List.{list_all};
 ghost use Rattle.std.specs.FinMap as maps;
 ghost use Rattle.tx_exec.specs.Outcomes.{wide_outcome, NamesOnce};
 ghost use Rattle.tx_walk.specs.SameTrees.{same};
-ghost use Rattle.tx_bridge.specs.Reached.{fits};
+ghost use Rattle.tx_bridge.specs.Reached.{can_be_used};
 ghost use Rattle.tx_bridge.specs.Settled.{AgreesWith, IsSilent};
 
 use crate::moments::Moment;
@@ -22,10 +22,10 @@ fn agrees_or(env: &Env, looks: &Looks, settled: bool) -> bool
 }
 
 // Whether what is kept can be used at the moment. Where `settled`, its looks are known to agree with what names have.
-pub(crate) fn fits(moment: &Moment, kept: &Outcome, settled: bool) -> bool
+pub(crate) fn can_be_used(moment: &Moment, kept: &Outcome, settled: bool) -> bool
     requires once { NamesOnce kept.now }
     requires settled { settled ≡ true → AgreesWith moment.now.env (wide_outcome kept.now) }
-    ensures { result ≡ fits moment.now (wide_outcome kept.now) }
+    ensures { result ≡ can_be_used moment.now (wide_outcome kept.now) }
 {
     match kept {
         Outcome::Over => false,

@@ -1,9 +1,9 @@
 // What is kept of an old unit is given to the new one that it is.
 ghost use Rattle.std.specs.Prelude.{◌≡◌, ℕ, ◌<◌, ◌≤◌, None, Some, length, IfSome, IsTrue};
 ghost use Rattle.tx_bridge.specs.Carrying.{same_kind, same_unit, is_path};
-ghost use Rattle.tx_bridge.specs.Slots.{IsSlot, IsPathSlot, AreMoved, AreApart, AllPlaced, given_from, given_all};
+ghost use Rattle.tx_bridge.specs.Slots.{IsSlot, IsPathSlot, AreMoved, HaveOwnPaths, AllPlaced, given_from, given_all};
 ghost use Rattle.tx_bridge.specs.Slots.{last_number, IsInOrder, HasOrder};
-ghost use Rattle.tx_bridge.specs.UnitLists.{IsPlaced};
+ghost use Rattle.tx_bridge.specs.UnitLists.{HasPathIfBody};
 
 use crate::bridge::Bridge;
 use tx_tree::Path;
@@ -41,7 +41,7 @@ pub(crate) fn has_path(unit: &Unit, path: &Path) -> bool
 
 // The number of the new unit with this path, by going through all.
 fn searched_slot(new: &[Bridge], path: &Path) -> Option<usize>
-    requires apart { AreApart new.now }
+    requires apart { HaveOwnPaths new.now }
     ensures slot { IsPathSlot path.now new.now result }
     ensures within { IfSome result (λ j. j < length new.now) }
 {
@@ -102,7 +102,7 @@ fn order_of(new: &[Bridge]) -> Option<usize>
 
 // The number of the new unit with this path, by the path's last number.
 fn ordered_slot(new: &[Bridge], path: &Path, first: usize) -> Option<usize>
-    requires apart { AreApart new.now }
+    requires apart { HaveOwnPaths new.now }
     requires order { HasOrder first new.now }
     ensures slot { IsPathSlot path.now new.now result }
     ensures within { IfSome result (λ j. j < length new.now) }
@@ -127,7 +127,7 @@ fn ordered_slot(new: &[Bridge], path: &Path, first: usize) -> Option<usize>
 
 // The number of the new unit with this path. It mostly is the hint.
 fn path_slot(new: &[Bridge], path: &Path, hint: usize, order: Option<usize>) -> Option<usize>
-    requires apart { AreApart new.now }
+    requires apart { HaveOwnPaths new.now }
     requires order { IfSome order (λ first. HasOrder first new.now) }
     ensures slot { IsPathSlot path.now new.now result }
     ensures within { IfSome result (λ j. j < length new.now) }
@@ -146,7 +146,7 @@ fn path_slot(new: &[Bridge], path: &Path, hint: usize, order: Option<usize>) -> 
 // The number of the new unit without a path that is the old one, of number i.
 fn same_slot(new: &[Bridge], i: usize, unit: &Unit) -> Option<usize>
     requires none { unit.now.path ≡ None }
-    requires placed { IsPlaced unit.now }
+    requires placed { HasPathIfBody unit.now }
     requires all { AllPlaced new.now }
     ensures slot { IsSlot None i unit.now new.now result }
     ensures within { IfSome result (λ j. j < length new.now) }
@@ -172,10 +172,10 @@ fn slot_of(
     hint: usize,
     order: Option<usize>,
 ) -> Option<usize>
-    requires apart { AreApart new.now }
+    requires apart { HaveOwnPaths new.now }
     requires order { IfSome order (λ first. HasOrder first new.now) }
     requires other { unit.now.path ≡ None → place.now ≡ None }
-    requires placed { IsPlaced unit.now }
+    requires placed { HasPathIfBody unit.now }
     requires all { AllPlaced new.now }
     ensures slot { IsSlot place.now i unit.now new.now result }
     ensures within { IfSome result (λ j. j < length new.now) }
@@ -201,10 +201,10 @@ fn give(
     hint: usize,
     order: Option<usize>,
 ) -> usize
-    requires apart { AreApart new.old }
+    requires apart { HaveOwnPaths new.old }
     requires order { IfSome order (λ first. HasOrder first new.old) }
     requires other { old.old.unit.path ≡ None → place.now ≡ None }
-    requires placed { IsPlaced old.old.unit }
+    requires placed { HasPathIfBody old.old.unit }
     requires all { AllPlaced new.old }
     ensures given { new.new ≡ given_from place.now i old.old 0 new.old }
 {
@@ -219,7 +219,7 @@ fn give(
 
 // Gives what is kept of all old units, which stand at these places now. It takes no memory.
 pub(crate) fn give_all(new: &mut [Bridge], places: &[Option<Path>], old: &mut [Bridge])
-    requires apart { AreApart new.old }
+    requires apart { HaveOwnPaths new.old }
     requires number { length places.now ≡ length old.old }
     requires others { AreMoved places.now old.old }
     requires placed { AllPlaced old.old }

@@ -11,15 +11,15 @@ ghost use Rattle.tx_exec.specs.Outcomes.{wide_outcome};
 ghost use Rattle.tx_units.specs.declared.kinds.Unit.{Unit as DocUnit};
 ghost use Rattle.tx_mod.specs.Mods.{path_of};
 ghost use Rattle.tx_bridge.specs.Settled.{IsSilent};
-ghost use Rattle.tx_bridge.specs.Sound.{IsSound, changed_in};
+ghost use Rattle.tx_bridge.specs.Sound.{IsSoundBridge, changed_in};
 ghost use Rattle.tx_bridge.specs.HeldParts.{HoldsPart, kept_parts};
 ghost use Rattle.tx_bridge.specs.Carrying.{AllStand};
 ghost use Rattle.tx_bridge.specs.MovedParts.{AreMovedParts};
 ghost use Rattle.tx_bridge.specs.Slots.{bodies_of};
-ghost use Rattle.tx_bridge.specs.InPlace.{wraps, begins, leaves_nowhere, is_gone, are_within, is_changed, IsOneChanged};
+ghost use Rattle.tx_bridge.specs.InPlace.{wraps, begins_path, leaves_nowhere, is_gone, are_within, is_changed, IsOneChanged};
 ghost use Rattle.tx_bridge.specs.InPlace.{NoneChanged};
 ghost use Rattle.tx_bridge.specs.Keeping.{all_keep_place};
-ghost use Rattle.tx_bridge.specs.Others.{others_from, put_from, parts_of};
+ghost use Rattle.tx_bridge.specs.Others.{others_from, put_from, done_parts_of};
 ghost use Rattle.tx_bridge.specs.Slots.{AllUnchanged, IsChangedAt};
 
 use crate::bridge::Bridge;
@@ -47,7 +47,7 @@ fn wraps(m: &Mod) -> bool
 
 // Whether the path begins with the front.
 fn begins(front: &Path, path: &Path) -> bool
-    ensures { result ≡ begins front.now path.now }
+    ensures { result ≡ begins_path front.now path.now }
 {
     path.steps().starts_with(front.steps())
 }
@@ -71,7 +71,7 @@ pub(crate) fn is_gone(path: &Path, mods: &[Mod]) -> bool
 
 // Whether all modifications are inside the subtree at the path.
 pub(crate) fn are_within(path: &Path, mods: &[Mod]) -> bool
-    ensures { result ≡ list_all (λ m. begins path.now (path_of m)) mods.now }
+    ensures { result ≡ list_all (λ m. begins_path path.now (path_of m)) mods.now }
 {
     mods.iter().all(|m| begins(path, m.path()))
 }
@@ -211,7 +211,7 @@ pub(crate) fn others_of_changed<L: Ledger>(
     requires there { changed < length bridges.now }
     requires changed { IsOneChanged changed 0 mods.now (bodies_of bridges.now) }
     requires stand { AllStand before.now (bodies_of bridges.now) }
-    requires sound { All IsSound bridges.now }
+    requires sound { All IsSoundBridge bridges.now }
     ensures moved { IfOk result (λ os. (b : Bridge) → slice_get bridges.now changed ≡ Some b
         → AreMovedParts mods.now before.now b.unit (kept_parts b.parts) os.items) }
     ensures counted { steps.new ≤ steps.old + cost_of mods.now }
@@ -233,7 +233,7 @@ pub(crate) fn change_one(
 ) -> bool
     requires { changed < length bridges.old }
     ensures changed { bridges.new
-        ≡ changed_in changed tree (put_from 0 others.items (parts_of changed bridges.old)) bridges.old }
+        ≡ changed_in changed tree (put_from 0 others.items (done_parts_of changed bridges.old)) bridges.old }
     ensures silent { IsTrue result → (b : Bridge) → slice_get bridges.old changed ≡ Some b
         → IsSilent (wide_outcome b.kept) }
 {

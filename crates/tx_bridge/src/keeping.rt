@@ -3,7 +3,7 @@ ghost use Rattle.std.specs.Prelude.{◌≡◌, ◌++◌, true, not, is_some};
 ghost use Rattle.std.specs.Option.{option_map_or};
 ghost use Rattle.tx_mod.specs.Mods.{path_of};
 ghost use Rattle.tx_mod.specs.Moves.{rest_behind};
-ghost use Rattle.tx_bridge.specs.InPlace.{begins, are_within};
+ghost use Rattle.tx_bridge.specs.InPlace.{begins_path, are_within};
 ghost use Rattle.tx_bridge.specs.Keeping.{is_below, stands_before, keeps_by_split, keeps_by_join, keeps_at};
 ghost use Rattle.tx_bridge.specs.Keeping.{keeps_place, all_keep_place};
 
@@ -73,7 +73,7 @@ fn keeps_below(m: &Mod, own: &[u32], below: &[u32]) -> bool
 
 // So it is of what stands at `below`, seen from `base`, inside whose subtree the modification is.
 fn keeps_place(m: &Mod, base: &Path, below: &Path) -> bool
-    requires { begins base.now (path_of m.now) ≡ true }
+    requires { begins_path base.now (path_of m.now) ≡ true }
     ensures { result ≡ keeps_place m.now (base.now ++ below.now) }
 {
     keeps_below(m, &m.path().steps()[base.steps().len()..], below.steps())

@@ -11,16 +11,16 @@ ghost use Rattle.tx_bridge.specs.InPlace.{is_changed};
 ghost use Rattle.tx_exec_form.specs.Evaluated.{WideTrace};
 ghost use Rattle.tx_view_form.specs.Outcomes.{Moment};
 ghost use Rattle.tx_bridge.specs.Entries.{Entry, Kept, outcome_of};
-ghost use Rattle.tx_parts.specs.Opening.{Sheller, closed};
+ghost use Rattle.tx_parts.specs.Opening.{Sheller, no_shells};
 ghost use Rattle.tx_parts.specs.Shellers.{IsSheller};
 ghost use Rattle.tx_parts.specs.LayerCosts.{Holder};
 ghost use Rattle.tx_walk.specs.LayerTraces.{TreeTrace, holds_either};
-ghost use Rattle.tx_bridge.specs.Reached.{fits, unit_stays_by};
+ghost use Rattle.tx_bridge.specs.Reached.{can_be_used, unit_stays_by};
 ghost use Rattle.tx_bridge.specs.PartsKept.{fresh_parts, fresh_parts_by};
 ghost use Rattle.tx_bridge.specs.Spares.{UnitSpare};
 ghost use Rattle.tx_bridge.specs.Charges.{layers_charge, charge_by, charge_with, charges_with, charges_from};
-ghost use Rattle.tx_bridge.specs.Charges.{LayersHold, LayersKnown};
-ghost use Rattle.tx_bridge.specs.UnitLists.{AreUnits, IsPlaced};
+ghost use Rattle.tx_bridge.specs.Charges.{LayersHold, UnitLayersKnown};
+ghost use Rattle.tx_bridge.specs.UnitLists.{AreUnits, HasPathIfBody};
 ghost use Rattle.tx_bridge.specs.Carrying.{AllStand, AreSameBodies};
 ghost use Rattle.tx_bridge.specs.PartsKept.{KeptParts};
 ghost use Rattle.tx_bridge.specs.CarryingParts.{StaysKept};
@@ -67,11 +67,11 @@ pub fn spare_law()
     ensures nothing { (m : Moment) (es : Kept) (pss : List KeptParts)
         → charges_with m es pss [] ≡ charges_from m es pss }
     ensures whole { (m n : Moment) (e : Entry) (ps : KeptParts) (rs : List TreeTrace) (trace : WideTrace)
-        → IsPlaced e.unit → outcome_of n e.unit ≡ Some trace → fits m (Some trace) ≡ true
+        → HasPathIfBody e.unit → outcome_of n e.unit ≡ Some trace → can_be_used m (Some trace) ≡ true
         → charge_with m e ps (record { trace = Some trace; parts = fresh_parts n e.unit; layers = rs }) ≡ 0 }
     ensures layers { (sheller : Sheller) → IsSheller sheller → (m n : Moment) (e : Entry) (ps : KeptParts)
-        (ls rs : List TreeTrace) (trace : WideTrace) → IsPlaced e.unit → outcome_of n e.unit ≡ Some trace
-        → fits m (Some trace) ≡ true → charge_by sheller m e ps ls
+        (ls rs : List TreeTrace) (trace : WideTrace) → HasPathIfBody e.unit → outcome_of n e.unit ≡ Some trace
+        → can_be_used m (Some trace) ≡ true → charge_by sheller m e ps ls
         (record { trace = Some trace; parts = fresh_parts_by sheller n e.unit; layers = rs })
         ≡ layers_charge (holds_either ls rs) sheller m e.unit }
 {
@@ -88,16 +88,17 @@ pub fn spare_law()
 /// of its refresh, and what is kept of them is what it was then.
 pub fn staying_law()
     ensures stays { (sheller : Sheller) → IsSheller sheller → (m n : Moment) (e : Entry) (trace : WideTrace)
-        → IsPlaced e.unit → e.trace ≡ Some trace → outcome_of n e.unit ≡ Some trace → fits m (Some trace) ≡ true
+        → HasPathIfBody e.unit → e.trace ≡ Some trace → outcome_of n e.unit ≡ Some trace
+        → can_be_used m (Some trace) ≡ true
         → unit_stays_by sheller m e (fresh_parts_by sheller n e.unit) ≡ true }
     ensures layers { (sheller : Sheller) (m : Moment) (e : Entry) (ks : KeptParts)
         (ls : List TreeTrace) (s : UnitSpare) → unit_stays_by sheller m e ks ≡ true
         → charge_by sheller m e ks ls s ≡ layers_charge (holds_either ls s.layers) sheller m e.unit }
     ensures again { (sheller : Sheller) → IsSheller sheller → (m n : Moment) (e : Entry) (ls : List TreeTrace)
-        (s : UnitSpare) (trace : WideTrace) → IsPlaced e.unit → e.trace ≡ Some trace
-        → outcome_of n e.unit ≡ Some trace → fits m (Some trace) ≡ true → LayersHold ls
-        → LayersKnown sheller n e.unit ls → charge_by sheller m e (fresh_parts_by sheller n e.unit) ls s ≡ 0 }
-    ensures nothing { (held : Holder) (m : Moment) (e : Entry) → layers_charge held closed m e.unit ≡ 0 }
+        (s : UnitSpare) (trace : WideTrace) → HasPathIfBody e.unit → e.trace ≡ Some trace
+        → outcome_of n e.unit ≡ Some trace → can_be_used m (Some trace) ≡ true → LayersHold ls
+        → UnitLayersKnown sheller n e.unit ls → charge_by sheller m e (fresh_parts_by sheller n e.unit) ls s ≡ 0 }
+    ensures nothing { (held : Holder) (m : Moment) (e : Entry) → layers_charge held no_shells m e.unit ≡ 0 }
 {
     trace_laws();
     opened_fitting_law();

@@ -14,9 +14,9 @@ ghost use Rattle.tx_bridge.specs.Entries.{outcome_of};
 ghost use Rattle.tx_bridge.specs.Moments.{IsPaid, beginning_with};
 ghost use Rattle.tx_parts.specs.Opening.{opens_nothing, shells_by};
 ghost use Rattle.tx_bridge.specs.PartsKept.{has_parts, fresh_parts_by, part_flags_by};
-ghost use Rattle.tx_bridge.specs.Charges.{parts_charge_by, LayersKnown};
+ghost use Rattle.tx_bridge.specs.Charges.{parts_charge_by, UnitLayersKnown};
 ghost use Rattle.tx_bridge.specs.HeldParts.{HoldsPart, PartsHold, kept_parts, flags_of_parts};
-ghost use Rattle.tx_bridge.specs.UnitLists.{IsPlaced};
+ghost use Rattle.tx_bridge.specs.UnitLists.{HasPathIfBody};
 
 use crate::unit_layers::UnitLayers;
 use crate::unit_parts::UnitParts;
@@ -162,7 +162,7 @@ impl Moment {
         steps: &mut Steps<L>,
     ) -> Result<Evaluated, Memory>
         requires nested { has_parts unit.now ≡ true }
-        requires placed { IsPlaced unit.now }
+        requires placed { HasPathIfBody unit.now }
         requires hold { AllByRecursion (HoldsPart unit.now.tagged.tree) kept.now }
         requires distinct { IsDistinct bytes_eq (paths_of kept.now) }
         requires spare_hold { AllByRecursion (HoldsPart unit.now.tagged.tree) spare.now }
@@ -178,7 +178,7 @@ impl Moment {
         ensures charge { IfOk result (λ e. e.charge
             ≡ parts_charge_by (shells_by (O.opens opener.now)) self.old unit.now (kept_parts kept.now)
             (kept_parts spare.now) layers.now spare_layers.now) }
-        ensures layers { IfOk result (λ e. LayersKnown (shells_by (O.opens opener.now)) self.old unit.now e.layers) }
+        ensures layers { IfOk result (λ e. UnitLayersKnown (shells_by (O.opens opener.now)) self.old unit.now e.layers) }
         ensures counted { IfOk result (λ e. steps.new ≡ steps.old + e.charge) }
         ensures stays { self.new ≡ self.old }
     {

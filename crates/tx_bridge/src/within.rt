@@ -5,7 +5,7 @@ ghost use Rattle.tx_mod.specs.Moves.{rest_behind};
 ghost use Rattle.tx_walk.specs.Walked.{IsTidy};
 ghost use Rattle.tx_bridge.specs.HeldParts.{kept_part};
 ghost use Rattle.tx_bridge.specs.CarryingParts.{part_at};
-ghost use Rattle.tx_bridge.specs.Others.{path_of_part, kept_there, kept_others, kept_of};
+ghost use Rattle.tx_bridge.specs.Others.{path_of_part, kept_there, kept_others, stored_of};
 
 use std::alloc::Global;
 use tx_base::Memory;
@@ -114,7 +114,7 @@ pub(crate) fn others_at(
 ) -> Result<Vec<(usize, Option<Part>)>, Memory>
     requires number { length places.now ≡ length numbers.now }
     requires tidy { All IsTidy parts.now }
-    ensures parts { IfOk result (λ v. kept_of v.items ≡ kept_others path.now parts.now numbers.now places.now) }
+    ensures parts { IfOk result (λ v. stored_of v.items ≡ kept_others path.now parts.now numbers.now places.now) }
     ensures tidy { IfOk result (λ v. All (λ o. IfSome o.1 IsTidy) v.items) }
 {
     let mut others = Vec::with_capacity(alloc, numbers.len())?;

@@ -1,7 +1,7 @@
 // Places that modifications are found to leave as they are.
 ghost use Rattle.std.specs.Prelude.{◌≡◌};
 ghost use Rattle.tx_mod.specs.Mods.{path_of};
-ghost use Rattle.tx_bridge.specs.InPlace.{begins, are_within};
+ghost use Rattle.tx_bridge.specs.InPlace.{begins_path, are_within};
 
 use crate::buffers::modifications;
 use crate::rows::{Row, first_untrue};
@@ -61,7 +61,7 @@ const PLACES: &[PlaceRow] = &[
 ];
 
 fn begins(base: &Path, m: &Mod) -> bool
-    ensures { result ≡ begins base.now (path_of m.now) }
+    ensures { result ≡ begins_path base.now (path_of m.now) }
 {
     m.path().steps().starts_with(base.steps())
 }

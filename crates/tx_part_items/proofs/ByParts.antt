@@ -17,7 +17,7 @@ use Rattle.tx_parts.specs.Atop.{env_atop}
 use Rattle.tx_parts.specs.Openness.{Settings, Openness, Document, With, Shut, openness}
 use Rattle.tx_parts.specs.Composed.{evaluates, SoFar, nothing_yet, with_child, children_from, document_trace}
 use Rattle.tx_parts.specs.Composed.{set_by, settings_cost, setting_values, with_trace, composed_as}
-use Rattle.tx_parts.specs.Parts.{Part, stored, parts, parts_from, parts_as, parts_by}
+use Rattle.tx_parts.specs.Parts.{Part, stored_part, parts, parts_from, parts_as, parts_by}
 use Rattle.tx_parts.proofs.Settings.{none_low}
 use Rattle.tx_parts.proofs.Composing.{inner_are}
 use Rattle.tx_parts.proofs.Children.{FirstDone, first_done}
@@ -35,10 +35,11 @@ use Rattle.tx_part_items.proofs.Deeper.{show_deeper, placed_paragraphs}
 
 -- the values of parts
 abbrev values_of : List Part → List PartValue
-values_of ps = kept_values (map stored ps)
+values_of ps = kept_values (map stored_part ps)
 
 both_values : (ps qs : List Part) → values_of (ps ++ qs) ≡ values_of ps ++ values_of qs
-both_values ps qs = ap kept_values (map-append stored ps qs) ∙ filter_map-append _ (map stored ps) (map stored qs)
+both_values ps qs = ap kept_values (map-append stored_part ps qs)
+    ∙ filter_map-append _ (map stored_part ps) (map stored_part qs)
 
 -- The parts with these values show what a tree shows, and the other values are left. At the end of a paragraph
 -- attributes are given back.
@@ -350,27 +351,27 @@ unit_or_one (listed ps) end = ap (or_one end) (sym (append-nil ps))
 module _ (k c : ℕ) (t : WideTree) (e : Before) (trace : WideTrace) (a : Attrs)
     (h : evaluates k c t e ≡ Some trace) where
   whole_shown : ShowAs (λ b. b) (show a trace.value) (values_of (parts k c [] t e)) []
-      (tree_shown k a (map stored (parts k c [] t e)) t)
+      (tree_shown k a (map stored_part (parts k c [] t e)) t)
   whole_shown =
       let vs : List PartValue = values_of (parts k c [] t e) in
       subst (λ v. ShowAs (λ b. b) (show a v) vs [] (parts_shown k (λ b. b) a vs t)) (under_none trace.value)
       (subst (λ ps. ShowAs (λ b. b) (show a (value_under [] trace.value)) vs [] (parts_shown k (λ b. b) a ps t))
       (append-nil vs) (all_show k c [] t e trace (λ b. b) a [] h))
 
-  pub each_shown : map own_value (tree_shown k a (map stored (parts k c [] t e)) t).each ≡
-      kept_values (map stored (parts k c [] t e))
+  pub each_shown : map own_value (tree_shown k a (map stored_part (parts k c [] t e)) t).each ≡
+      kept_values (map stored_part (parts k c [] t e))
   each_shown = whole_shown.each
 
   pub paragraphs_shown : shown_paragraphs a trace.value ≡
-      paragraphs_by_parts (tree_shown k a (map stored (parts k c [] t e)) t)
+      paragraphs_by_parts (tree_shown k a (map stored_part (parts k c [] t e)) t)
   paragraphs_shown =
       let s : Shown = show a trace.value in
       unit_or_one s.form s.after ∙ ap (λ end. or_one end (one_by_one ((s.form, s.after) ∷ []))) (sym whole_shown.after)
-      ∙ ap (or_one (tree_shown k a (map stored (parts k c [] t e)) t).after) (sym whole_shown.paragraphs)
+      ∙ ap (or_one (tree_shown k a (map stored_part (parts k c [] t e)) t).after) (sym whole_shown.paragraphs)
 
   pub errors_shown : (show a trace.value).errors ≡
-      errors_by_parts (tree_shown k a (map stored (parts k c [] t e)) t)
+      errors_by_parts (tree_shown k a (map stored_part (parts k c [] t e)) t)
   errors_shown = sym whole_shown.errors
 
-  pub after_shown : (show a trace.value).after ≡ (tree_shown k a (map stored (parts k c [] t e)) t).after
+  pub after_shown : (show a trace.value).after ≡ (tree_shown k a (map stored_part (parts k c [] t e)) t).after
   after_shown = sym whole_shown.after

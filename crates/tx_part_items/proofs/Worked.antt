@@ -5,7 +5,7 @@ use Rattle.tx_tree.specs.WideTree.{WideTree, leaf, node, forest}
 use Rattle.tx_exec_form.specs.Runs.{Before, pay, need}
 use Rattle.tx_exec_form.specs.Rows.{ex, row, node_run, leaf_run, rebuilt, assigned, stored as stored_text}
 use Rattle.tx_exec_form.specs.Evaluated.{evaluated_in}
-use Rattle.tx_parts.specs.Parts.{parts, stored, parts_by}
+use Rattle.tx_parts.specs.Parts.{parts, stored_part, parts_by}
 use Rattle.tx_items.specs.Attributes.{initial, attribute_named}
 use Rattle.tx_items.specs.Rules.{rule_of}
 use Rattle.tx_items.specs.Shows.{show}
@@ -15,7 +15,7 @@ abbrev tag : List ℕ → List WideTree → WideTree
 tag label ts = node label (forest ts)
 
 abbrev shown : WideTree → Before → PartsShown
-shown t e = tree_shown 9 initial (map stored (parts 9 100 [] t e)) t
+shown t e = tree_shown 9 initial (map stored_part (parts 9 100 [] t e)) t
 
 -- of each part its path, and the colour before it and at its end
 abbrev colors : PartsShown → List (List ℕ × List ℕ × List ℕ)

@@ -6,7 +6,7 @@ ghost use Rattle.tx_origin.specs.Values.{WideValue};
 ghost use Rattle.tx_exec_form.specs.Runs.{Before};
 ghost use Rattle.tx_exec_form.specs.Evaluated.{WideTrace};
 ghost use Rattle.tx_parts.specs.Composed.{evaluates};
-ghost use Rattle.tx_parts.specs.Parts.{parts, stored};
+ghost use Rattle.tx_parts.specs.Parts.{parts, stored_part};
 ghost use Rattle.tx_items.specs.declared.attributes.Attrs.{Attrs};
 ghost use Rattle.tx_items.specs.Shows.{show, part_paragraphs, shown_paragraphs};
 ghost use Rattle.tx_part_items.specs.ItemsUnder.{shown_under, paragraph_under};
@@ -29,15 +29,15 @@ pub fn items_under_law()
 pub fn parts_shown_law()
     ensures each { (k c : ℕ) (t : WideTree) (e : Before) (trace : WideTrace) (a : Attrs) →
         evaluates k c t e ≡ Some trace →
-        map own_value (tree_shown k a (map stored (parts k c [] t e)) t).each
-        ≡ kept_values (map stored (parts k c [] t e)) }
+        map own_value (tree_shown k a (map stored_part (parts k c [] t e)) t).each
+        ≡ kept_values (map stored_part (parts k c [] t e)) }
     ensures paragraphs { (k c : ℕ) (t : WideTree) (e : Before) (trace : WideTrace) (a : Attrs) →
         evaluates k c t e ≡ Some trace →
-        shown_paragraphs a trace.value ≡ paragraphs_by_parts (tree_shown k a (map stored (parts k c [] t e)) t) }
+        shown_paragraphs a trace.value ≡ paragraphs_by_parts (tree_shown k a (map stored_part (parts k c [] t e)) t) }
     ensures errors { (k c : ℕ) (t : WideTree) (e : Before) (trace : WideTrace) (a : Attrs) →
         evaluates k c t e ≡ Some trace →
-        (show a trace.value).errors ≡ errors_by_parts (tree_shown k a (map stored (parts k c [] t e)) t) }
+        (show a trace.value).errors ≡ errors_by_parts (tree_shown k a (map stored_part (parts k c [] t e)) t) }
     ensures after { (k c : ℕ) (t : WideTree) (e : Before) (trace : WideTrace) (a : Attrs) →
         evaluates k c t e ≡ Some trace →
-        (show a trace.value).after ≡ (tree_shown k a (map stored (parts k c [] t e)) t).after }
+        (show a trace.value).after ≡ (tree_shown k a (map stored_part (parts k c [] t e)) t).after }
 {}

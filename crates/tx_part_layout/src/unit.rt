@@ -8,7 +8,7 @@ ghost use Rattle.tx_exec_form.specs.declared.TheConstants.{MOST_LEVELS};
 ghost use Rattle.tx_exec_form.specs.Runs.{Before};
 ghost use Rattle.tx_exec_form.specs.Evaluated.{WideTrace};
 ghost use Rattle.tx_parts.specs.Composed.{evaluates};
-ghost use Rattle.tx_parts.specs.Parts.{parts as tree_parts, stored};
+ghost use Rattle.tx_parts.specs.Parts.{parts as tree_parts, stored_part};
 ghost use Rattle.tx_items.specs.Shows.{show, shown_paragraphs};
 ghost use Rattle.tx_view_form.specs.Views.{AreLines};
 ghost use Rattle.tx_part_items.specs.ShownParts.{kept_values, parts_shown};
@@ -48,7 +48,7 @@ pub fn lay_parts<L: Ledger>(
     requires same { All (λ d. All (λ p. IsOfValue p d) old.now) parts.now }
     ensures laid { IfOk result (λ u. IsLaidUnit width (whole_shown attrs.now parts.now tree.now) u) }
     ensures shown { (c : ℕ) (e : Before) (trace : WideTrace) → evaluates MOST_LEVELS c tree.now e ≡ Some trace
-        → kept_values (map stored (tree_parts MOST_LEVELS c [] tree.now e)) ≡ map done_value parts.now
+        → kept_values (map stored_part (tree_parts MOST_LEVELS c [] tree.now e)) ≡ map done_value parts.now
         → IfOk result (λ u. ShowsValue width attrs.now trace.value parts.now u) }
     ensures items { IfOk result (λ u. u.items ≡ items_anew old.now parts.now
         (whole_shown attrs.now parts.now tree.now).each) }

@@ -21,7 +21,7 @@ use Rattle.tx_parts.specs.Composed.{alone, evaluates, SoFar, nothing_yet, with_c
 use Rattle.tx_parts.specs.Composed.{set_by, settings_cost, with_trace, composed_as}
 use Rattle.tx_env.specs.Pairs.{Name}
 use Rattle.tx_parts.specs.Shells.{Layer, bare, in_turn}
-use Rattle.tx_parts.specs.Opening.{Sheller, closed, Opening, ByTree, ByShell, opening}
+use Rattle.tx_parts.specs.Opening.{Sheller, no_shells, Opening, ByTree, ByShell, opening}
 use Rattle.tx_parts.specs.Layered.{evaluates_bare, layer_values, layer_pairs, as_sets, layer_cost}
 use Rattle.tx_parts.specs.Layered.{inside_layer, layer_trace, child_trace, layer_composed}
 use Rattle.tx_parts.specs.Layered.{composed_layers, evaluates_in, shell_trace, composed_opened}
@@ -415,8 +415,8 @@ all_cost_in held sheller sound k ls i c path t e =
 pub parts_cost : (k c : ℕ) (path : List ℕ) (t : WideTree) (e : Before) →
     total (parts k c path t e) ≤ paid c (evaluates k c t e)
 parts_cost k c path t e =
-    let all : total (parts k c path t e) + layer_costs_by holds_nothing closed k c t e ≤ paid c (evaluates k c t e) =
-    all_cost holds_nothing closed closed_is k c path t e in
+    let all : total (parts k c path t e) + layer_costs_by holds_nothing no_shells k c t e ≤ paid c (evaluates k c t e) =
+    all_cost holds_nothing no_shells closed_is k c path t e in
     omega (arith, all)
 
 -- ---- where nothing has a shell
@@ -441,8 +441,8 @@ module _ (k : ℕ) (counter : Counter) (none : (c : ℕ) (t : WideTree) (e : Bef
   none_as Shut c t e = refl
 
 -- no layer costs anything
-pub closed_costs : (held : Holder) (k c : ℕ) (t : WideTree) (e : Before) → layer_costs_by held closed k c t e ≡ 0
+pub closed_costs : (held : Holder) (k c : ℕ) (t : WideTree) (e : Before) → layer_costs_by held no_shells k c t e ≡ 0
 unfolding layer_costs_by
 closed_costs held zero c t e = refl
 closed_costs held (suc k) c t e =
-    none_as k (layer_costs_by held closed k) (closed_costs held k) (openness t) c t e
+    none_as k (layer_costs_by held no_shells k) (closed_costs held k) (openness t) c t e

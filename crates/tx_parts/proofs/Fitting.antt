@@ -17,13 +17,14 @@ use Rattle.tx_exec_form.proofs.Tracing.{supports, allowed, agrees}
 use Rattle.tx_parts.specs.Atop.{atop, env_atop, past, both_looks}
 use Rattle.tx_parts.specs.Openness.{Settings, Openness, Document, With, Shut}
 use Rattle.tx_parts.specs.Shells.{Layer, Shell, bare, in_turn}
-use Rattle.tx_parts.specs.Opening.{Sheller, closed, Opening, ByTree, ByShell, opening, opening_by}
+use Rattle.tx_parts.specs.Opening.{Sheller, no_shells, Opening, ByTree, ByShell, opening, opening_by}
 use Rattle.tx_parts.specs.Composed.{Tracer, alone, evaluates, SoFar, nothing_yet, with_child, children_from}
 use Rattle.tx_parts.specs.Composed.{document_trace, set_by, settings_cost, with_trace, composed_as}
 use Rattle.tx_parts.specs.Layered.{evaluates_bare, layer_values, layer_sets, layer_cost, inside_layer, evaluates_in}
 use Rattle.tx_parts.specs.Layered.{layer_trace, child_trace, layer_composed, label_look, shell_trace, composed_opened}
 use Rattle.tx_parts.specs.Shellers.{IsSheller}
-use Rattle.tx_parts.specs.Parts.{Part, Finder, parts_from, parts_as, parts, part_trace, HasTrace, stored, LayerFinder}
+use Rattle.tx_parts.specs.Parts.{Part, Finder, parts_from, parts_as, parts, part_trace, HasTrace, stored_part}
+use Rattle.tx_parts.specs.Parts.{LayerFinder}
 use Rattle.tx_parts.specs.Parts.{parts_layers, parts_opened, parts_by, parts_in}
 use Rattle.tx_parts.specs.Fitting.{Fits, AllFit}
 use Rattle.tx_parts.proofs.PartRuns.{part_fits, before_fits, both_agree}
@@ -418,17 +419,17 @@ module _ (sheller : Sheller) (sound : IsSheller sheller) where
 
 -- ---- what is stored of them
 
-one_stored : (p q : Part) → Fits p q → stored q ≡ stored p
+one_stored : (p q : Part) → Fits p q → stored_part q ≡ stored_part p
 one_stored p q f =
     let same : part_trace q ≡ part_trace p = f.again ∙ sym f.comes in
     ap (λ at. record { path = at; trace = part_trace q }) f.path ∙ ap (λ o. record { path = p.path; trace = o }) same
 
-stored_alike : (ps qs : List Part) → AllFit ps qs → map stored qs ≡ map stored ps
+stored_alike : (ps qs : List Part) → AllFit ps qs → map stored_part qs ≡ map stored_part ps
 stored_alike [] [] h = refl
 stored_alike [] (q ∷ qs) h = absurd h
 stored_alike (p ∷ ps) [] h = absurd h
 stored_alike (p ∷ ps) (q ∷ qs) h =
-    ap (λ s. s ∷ map stored qs) (one_stored p q h.0) ∙ ap (λ ss. stored p ∷ ss) (stored_alike ps qs h.1)
+    ap (λ s. s ∷ map stored_part qs) (one_stored p q h.0) ∙ ap (λ ss. stored_part p ∷ ss) (stored_alike ps qs h.1)
 
 each_traced : (ps qs : List Part) → AllFit ps qs → AllByRecursion HasTrace ps
 each_traced [] [] h = tt
@@ -439,7 +440,7 @@ each_traced (p ∷ ps) (q ∷ qs) h = ((h.0.trace, h.0.comes), each_traced ps qs
 module _ (sheller : Sheller) (sound : IsSheller sheller) where
   pub stored_by : (k c n : ℕ) (path : List ℕ) (t : WideTree) (e d : Before) (trace : WideTrace) →
       evaluates k c t e ≡ Some trace → Agrees d trace.looks → trace.cost ≤ n →
-      map stored (parts_by sheller k n path t d) ≡ map stored (parts_by sheller k c path t e)
+      map stored_part (parts_by sheller k n path t d) ≡ map stored_part (parts_by sheller k c path t e)
   stored_by k c n path t e d trace h g enough =
       stored_alike (parts_by sheller k c path t e) (parts_by sheller k n path t d)
       (parts_by_fit sheller sound k c n path t e d trace h g enough)
@@ -455,13 +456,13 @@ module _ (sheller : Sheller) (sound : IsSheller sheller) where
 -- ---- where nothing has a shell
 
 pub parts_fit : (k : ℕ) → FitBelow k (parts k)
-parts_fit k = parts_by_fit closed closed_is k
+parts_fit k = parts_by_fit no_shells closed_is k
 
 pub same_stored : (k c n : ℕ) (path : List ℕ) (t : WideTree) (e d : Before) (trace : WideTrace) →
     evaluates k c t e ≡ Some trace → Agrees d trace.looks → trace.cost ≤ n →
-    map stored (parts k n path t d) ≡ map stored (parts k c path t e)
-same_stored k c n path t e d trace h g enough = stored_by closed closed_is k c n path t e d trace h g enough
+    map stored_part (parts k n path t d) ≡ map stored_part (parts k c path t e)
+same_stored k c n path t e d trace h g enough = stored_by no_shells closed_is k c n path t e d trace h g enough
 
 pub all_traced : (k c : ℕ) (path : List ℕ) (t : WideTree) (e : Before) (trace : WideTrace) →
     evaluates k c t e ≡ Some trace → AllByRecursion HasTrace (parts k c path t e)
-all_traced k c path t e trace h = traced_by closed closed_is k c path t e trace h
+all_traced k c path t e trace h = traced_by no_shells closed_is k c path t e trace h

@@ -22,7 +22,7 @@ use Rattle.tx_exec_form.specs.Evaluated.{start}
 use Rattle.tx_exec_form.specs.declared.rows.Taking.TheVariants as takings
 use Rattle.tx_parts.specs.Shells.{Layer, Shell, IsShell, bare, in_turn, in_layers, child_in, shell_run}
 use Rattle.tx_parts.specs.Composed.{alone}
-use Rattle.tx_parts.specs.MacroBodies.{body_of, IsFree, IsFreeLayer, IsCallOf}
+use Rattle.tx_parts.specs.MacroBodies.{body_in_layers, IsFree, IsFreeLayer, IsCallOf}
 use Rattle.tx_parts.proofs.Layers.{layer_eval}
 use Rattle.tx_parts.proofs.LayerValues.{odd_kids}
 use Rattle.tx_parts.proofs.Running.{fresh, row_alone, node_start, step_start}
@@ -107,7 +107,7 @@ module _ (params : List Name) (kids : List TaggedTree) (x : Name) (i : ℕ) (u :
   abbrev frame : Frame
   frame = call params kids top
 
-  argument_is : (k : ℕ) → ex (suc k) (bare (body_of [] x)) frame ≡
+  argument_is : (k : ℕ) → ex (suc k) (bare (body_in_layers [] x)) frame ≡
       in_layers (suc k) [] (record { tree = u; at = Some (i ∷ []) }) top
   unfolding ex in_layers node_run row arg_of arg_part used
   argument_is k =
@@ -115,13 +115,13 @@ module _ (params : List Name) (kids : List TaggedTree) (x : Name) (i : ℕ) (u :
       arg_found takings.Evaluated (suc k) (ex k) (ex_all k) frame (codes "arg") x [] r)) found
 
   pub body_runs : (k : ℕ) (ls : List Layer) → AllByRecursion (IsFreeLayer frame) ls →
-      ex k (bare (body_of ls x)) frame ≡ in_layers k ls (record { tree = u; at = Some (i ∷ []) }) top
+      ex k (bare (body_in_layers ls x)) frame ≡ in_layers k ls (record { tree = u; at = Some (i ∷ []) }) top
   unfolding ex in_layers node_run row
   body_runs zero ls h = refl
   body_runs (suc k) [] h = argument_is k
   body_runs (suc k) (l ∷ ls) h =
       ap (λ m. need 1 (suc k) >> (pay 1 >> m))
-      (row_same frame k ls (body_of ls x) i u (body_runs k ls h.1) l h.0)
+      (row_same frame k ls (body_in_layers ls x) i u (body_runs k ls h.1) l h.0)
 
 -- ---- the call
 
@@ -158,13 +158,13 @@ module _ (k c : ℕ) (label : List ℕ) (ts : Forest) (e : Before) (params : Lis
       ∙ ap (λ n. Some (record { tree = h.child; at = Some (n ∷ []) })) number)
 
   call_looks : row_alone k c label ts e e (fresh (c - 1) k) ≡
-      ex k (bare (body_of ls x)) (call params kids top) e looked_up
+      ex k (bare (body_in_layers ls x)) (call params kids top) e looked_up
   unfolding called
   call_looks =
       run_is k c label ts e e h.other
       ∙ ap (λ o. tag_found (suc k) (ex k) label (Some []) kids top o e looked_up) h.macro
       ∙ ap (λ m. applied (suc k) (ex k) label kids top m e looked_up)
-      (ap macro_in (trees_of (map leaf params ++ body_of ls x ∷ [])) ∙ read_macro params (body_of ls x))
+      (ap macro_in (trees_of (map leaf params ++ body_in_layers ls x ∷ [])) ∙ read_macro params (body_in_layers ls x))
 
   call_runs : ex (suc k) (alone (node label ts)) top e (start (suc k) c) ≡
       shell_run (suc k) shell (node label ts) e (start (suc k) c)

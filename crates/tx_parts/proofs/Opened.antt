@@ -19,7 +19,7 @@ use Rattle.tx_origin.specs.Under.{value_under}
 use Rattle.tx_parts.specs.Atop.{atop, env_atop, both_looks}
 use Rattle.tx_parts.specs.Adding.{part_ran}
 use Rattle.tx_parts.specs.Shells.{Layer, Shell, IsShell, child_in, in_layers, shell_run}
-use Rattle.tx_parts.specs.Opening.{Sheller, closed, opening, opening_by, shell_opening}
+use Rattle.tx_parts.specs.Opening.{Sheller, no_shells, opening, opening_by, shell_opening}
 use Rattle.tx_parts.specs.Openness.{openness}
 use Rattle.tx_parts.specs.Composed.{evaluates, SoFar}
 use Rattle.tx_parts.specs.Layered.{layer_values, layer_cost, layer_trace, inside_layer, child_trace, layer_composed}
@@ -261,7 +261,7 @@ by_sheller k c t e (Some shell) h =
     by_shell k c t e shell (slice_get (children_of t) shell.inner) refl (h shell refl)
 
 -- where nothing has a shell
-pub closed_is : IsSheller closed
+pub closed_is : IsSheller no_shells
 closed_is = record { shells = λ t e shell q. cc; again = λ k c t e d trace q h. refl }
 
 -- of its inner trees

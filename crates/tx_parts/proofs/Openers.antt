@@ -23,7 +23,7 @@ use Rattle.tx_exec_form.proofs.Agreeing.{agrees_nothing, agrees_noted_back}
 use Rattle.tx_origin.specs.Under.{value_under}
 use Rattle.tx_parts.specs.Atop.{env_atop}
 use Rattle.tx_parts.specs.Shells.{Shell, Opener, IsShell, IsOpener, is_tag_row, is_other_tag}
-use Rattle.tx_parts.specs.Opening.{closed, opens_nothing, shells_by}
+use Rattle.tx_parts.specs.Opening.{no_shells, opens_nothing, shells_by}
 use Rattle.tx_parts.specs.Composed.{alone, evaluates}
 use Rattle.tx_parts.specs.Shellers.{IsSheller}
 use Rattle.tx_parts.proofs.UnderValues.{kids_under}
@@ -171,9 +171,9 @@ none_found t true (Some m) = refl
 none_found t true None = refl
 none_found t false o = refl
 
-nothing_opened : (t : WideTree) (e : Before) → shells_by opens_nothing t e ≡ closed t e
+nothing_opened : (t : WideTree) (e : Before) → shells_by opens_nothing t e ≡ no_shells t e
 nothing_opened (leaf words) e = refl
 nothing_opened (node label ts) e = none_found (node label ts) (is_other_tag label) (e label)
 
-pub closed_by_nothing : shells_by opens_nothing ≡ closed
+pub closed_by_nothing : shells_by opens_nothing ≡ no_shells
 closed_by_nothing = fun_ext (λ t. fun_ext (λ e. nothing_opened t e))

@@ -15,7 +15,7 @@ use Rattle.tx_parts.specs.Composed.{settings_cost, with_trace, composed_as}
 use Rattle.tx_parts.specs.Layered.{layer_values, layer_cost, inside_layer, layer_trace, child_trace, layer_composed}
 use Rattle.tx_parts.specs.Layered.{composed_layers, evaluates_in, shell_trace, composed_opened}
 use Rattle.tx_parts.specs.Shellers.{IsSheller}
-use Rattle.tx_parts.specs.Parts.{Part, Stored, stored, Finder, parts_from, parts_as, LayerFinder, parts_layers}
+use Rattle.tx_parts.specs.Parts.{Part, Stored, stored_part, Finder, parts_from, parts_as, LayerFinder, parts_layers}
 use Rattle.tx_parts.specs.Parts.{parts_opened, parts_by, parts_in}
 use Rattle.tx_parts.specs.Recomposed.{FromStored, Recomposer, in_whole, recomposed_from, recomposed_as}
 use Rattle.tx_parts.specs.Recomposed.{LayerRecomposer, recomposed_layers, recomposed_opened, recomposed_by}
@@ -29,12 +29,12 @@ leaving rest o = option_map (λ x. (x, rest)) o
 
 -- what is stored of parts, and more
 abbrev stored_before : List Part → List Stored → List Stored
-stored_before ps rest = map stored ps ++ rest
+stored_before ps rest = map stored_part ps ++ rest
 
 stored_both : (ps qs : List Part) (rest : List Stored) →
     stored_before (ps ++ qs) rest ≡ stored_before ps (stored_before qs rest)
 stored_both ps qs rest =
-    ap (λ all. all ++ rest) (map-append stored ps qs) ∙ append_assoc (map stored ps) (map stored qs) rest
+    ap (λ all. all ++ rest) (map-append stored_part ps qs) ∙ append_assoc (map stored_part ps) (map stored_part qs) rest
 
 whole_leaves : {A : Type 0} → (n c : ℕ) (whole : A → WideTrace) (rest : List Stored) (o : Option A) →
     in_whole n c whole (leaving rest o) ≡ leaving rest (if nat_le n c then option_map whole o else None)
@@ -151,10 +151,10 @@ module _ (sheller : Sheller) (sound : IsSheller sheller) where
 
   pub whole_recomposed : (k c : ℕ) (path : List ℕ) (t : WideTree) (e : Before) (trace : WideTrace)
       (rest : List Stored) → evaluates k c t e ≡ Some trace →
-      recomposed_by sheller k c t e (map stored (parts_by sheller k c path t e) ++ rest) ≡ Some (trace, rest)
+      recomposed_by sheller k c t e (map stored_part (parts_by sheller k c path t e) ++ rest) ≡ Some (trace, rest)
   whole_recomposed k c path t e trace rest h = recomposed_is k c path t e rest ∙ ap (leaving rest) h
 
   pub over_recomposed : (k c : ℕ) (path : List ℕ) (t : WideTree) (e : Before) (rest : List Stored) →
       evaluates k c t e ≡ None →
-      recomposed_by sheller k c t e (map stored (parts_by sheller k c path t e) ++ rest) ≡ None
+      recomposed_by sheller k c t e (map stored_part (parts_by sheller k c path t e) ++ rest) ≡ None
   over_recomposed k c path t e rest h = recomposed_is k c path t e rest ∙ ap (leaving rest) h

@@ -16,7 +16,7 @@ use Rattle.tx_parts.specs.Openness.{Settings, settings_in, Openness, Document, W
 use Rattle.tx_parts.specs.Openness.{with_openness, openness}
 use Rattle.tx_parts.specs.Composed.{evaluates, SoFar, nothing_yet, with_child, set_by, settings_cost}
 use Rattle.tx_parts.specs.Shells.{Layer, Shell}
-use Rattle.tx_parts.specs.Opening.{Sheller, closed, Opening, ByTree, ByShell, opening, opening_by, shell_opening}
+use Rattle.tx_parts.specs.Opening.{Sheller, no_shells, Opening, ByTree, ByShell, opening, opening_by, shell_opening}
 use Rattle.tx_parts.specs.Layered.{layer_values, layer_cost, inside_layer}
 use Rattle.tx_parts.specs.Parts.{Part, Finder, parts_from, parts_as, parts, LayerFinder, parts_layers, parts_opened}
 use Rattle.tx_parts.specs.Parts.{parts_by, parts_in}
@@ -188,7 +188,7 @@ module _ (sheller : Sheller) where
         layers_stand k (parts_by sheller k) (parts_by_stand k) (parts_in sheller k) (parts_in_stand k) ls i c path u e
 
 pub parts_stand : (k : ℕ) → StandBelow (parts k)
-parts_stand k = parts_by_stand closed k
+parts_stand k = parts_by_stand no_shells k
 
 -- ---- no two stand at one path
 
@@ -369,4 +369,4 @@ parts_by_differ sheller k c path t e = distinct (parts_by sheller k c path t e) 
 
 pub parts_differ : (k c : ℕ) (path : List ℕ) (t : WideTree) (e : Before) →
     IsDistinct bytes_eq (map (λ p. p.path) (parts k c path t e))
-parts_differ k c path t e = parts_by_differ closed k c path t e
+parts_differ k c path t e = parts_by_differ no_shells k c path t e

@@ -15,7 +15,7 @@ use Rattle.tx_exec_form.specs.Evaluated.{WideTrace, evaluated_in}
 use Rattle.tx_parts.specs.Atop.{atop, env_atop, past, both_looks}
 use Rattle.tx_origin.specs.Under.{value_under}
 use Rattle.tx_parts.specs.Shells.{Layer, bare, in_turn}
-use Rattle.tx_parts.specs.Opening.{Sheller, closed, Opening, ByTree, ByShell, opening}
+use Rattle.tx_parts.specs.Opening.{Sheller, no_shells, Opening, ByTree, ByShell, opening}
 use Rattle.tx_parts.specs.Composed.{Tracer, evaluates, SoFar, nothing_yet, children_from, composed_as}
 
 -- ---- a layer
@@ -131,4 +131,4 @@ unfoldable mutual
 
 -- where nothing has a shell
 abbrev pub composed : ℕ → Tracer
-composed k = composed_by closed k
+composed k = composed_by no_shells k

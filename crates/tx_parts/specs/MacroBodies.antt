@@ -10,9 +10,9 @@ use Rattle.tx_exec_form.specs.Rows.{ex}
 use Rattle.tx_parts.specs.Shells.{Layer, IsFull, bare, in_turn, is_other_tag}
 
 -- layers round (arg x)
-abbrev pub body_of : List Layer → Name → WideTree
-body_of [] x = node (codes "arg") (forest (leaf x ∷ []))
-body_of (l ∷ ls) x = node (codes "with") (forest (in_turn l.names l.trees ++ body_of ls x ∷ []))
+abbrev pub body_in_layers : List Layer → Name → WideTree
+body_in_layers [] x = node (codes "arg") (forest (leaf x ∷ []))
+body_in_layers (l ∷ ls) x = node (codes "with") (forest (in_turn l.names l.trees ++ body_in_layers ls x ∷ []))
 
 -- with these parameters
 abbrev pub macro_of : List Name → WideTree → WideTree
@@ -29,7 +29,7 @@ IsFreeLayer frame l = AllByRecursion (IsFree frame) l.trees
 pub record IsCallOf (label : List ℕ) (ts : Forest) (e : Before) (params : List Name) (ls : List Layer) (x : Name)
     (i : ℕ) : Type 0 where
   pub other : is_other_tag label ≡ true
-  pub macro : e label ≡ Some (macro_of params (body_of ls x))
+  pub macro : e label ≡ Some (macro_of params (body_in_layers ls x))
   pub child : WideTree
   pub stands : slice_get (trees ts) i ≡ Some child
   pub found : argument x params (kids_from (Some []) 0 ts) ≡ Here (record { tree = child; at = Some (i ∷ []) })

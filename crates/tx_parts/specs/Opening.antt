@@ -10,8 +10,8 @@ abbrev pub Sheller : Type 0
 Sheller = WideTree → Before → Option Shell
 
 -- nothing has a shell
-abbrev pub closed : Sheller
-closed t e = None
+abbrev pub no_shells : Sheller
+no_shells t e = None
 
 -- an opener that opens nothing
 abbrev pub opens_nothing : Opener

@@ -7,7 +7,7 @@ use Rattle.tx_exec_form.specs.Evaluated.{WideTrace, paid}
 use Rattle.tx_parts.specs.Atop.{env_atop}
 use Rattle.tx_parts.specs.Openness.{Openness, Document, With, Shut}
 use Rattle.tx_parts.specs.Shells.{Layer}
-use Rattle.tx_parts.specs.Opening.{Sheller, closed, Opening, ByTree, ByShell, opening}
+use Rattle.tx_parts.specs.Opening.{Sheller, no_shells, Opening, ByTree, ByShell, opening}
 use Rattle.tx_parts.specs.Composed.{evaluates, SoFar, nothing_yet, with_child, set_by, settings_cost}
 use Rattle.tx_parts.specs.Layered.{layer_values, layer_cost, inside_layer}
 
@@ -32,8 +32,8 @@ pub record Stored : Type 0 where
   pub path : List ℕ
   pub trace : Option WideTrace
 
-abbrev pub stored : Part → Stored
-stored p = record { path = p.path; trace = part_trace p }
+abbrev pub stored_part : Part → Stored
+stored_part p = record { path = p.path; trace = part_trace p }
 
 -- what it costs, or all its steps where it is over
 abbrev pub part_cost : Part → ℕ
@@ -87,4 +87,4 @@ unfoldable mutual
 
 -- where nothing has a shell
 abbrev pub parts : ℕ → Finder
-parts k = parts_by closed k
+parts k = parts_by no_shells k

@@ -24,7 +24,7 @@ ghost use Rattle.tx_parts.specs.Adding.{after_part, part_ran};
 ghost use Rattle.tx_parts.specs.Openness.{openness};
 ghost use Rattle.tx_parts.specs.Composed.{evaluates, composed_as};
 ghost use Rattle.tx_parts.specs.Layered.{composed};
-ghost use Rattle.tx_parts.specs.Parts.{HasTrace, stored, part_cost, parts};
+ghost use Rattle.tx_parts.specs.Parts.{HasTrace, stored_part, part_cost, parts};
 ghost use Rattle.tx_parts.specs.Fitting.{AllFit};
 ghost use Rattle.tx_parts.specs.Standing.{StandsIn};
 
@@ -62,7 +62,7 @@ pub fn fitting_law()
         AllFit (parts k c path t e) (parts k n path t d) }
     ensures same_stored { (k c n : ℕ) (path : List ℕ) (t : WideTree) (e d : Before) (trace : WideTrace) →
         evaluates k c t e ≡ Some trace → Agrees d trace.looks → trace.cost ≤ n →
-        map stored (parts k n path t d) ≡ map stored (parts k c path t e) }
+        map stored_part (parts k n path t d) ≡ map stored_part (parts k c path t e) }
     ensures all_traced { (k c : ℕ) (path : List ℕ) (t : WideTree) (e : Before) (trace : WideTrace) →
         evaluates k c t e ≡ Some trace → AllByRecursion HasTrace (parts k c path t e) }
 {}

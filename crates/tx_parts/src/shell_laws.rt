@@ -13,11 +13,11 @@ ghost use Rattle.tx_parts.specs.Atop.{env_atop};
 ghost use Rattle.tx_parts.specs.Adding.{part_ran};
 ghost use Rattle.tx_parts.specs.Shells.{Layer, Shell, IsShell, Opener, IsOpener, in_layers};
 ghost use Rattle.tx_parts.specs.MacroBodies.{IsCallOf};
-ghost use Rattle.tx_parts.specs.Opening.{Sheller, closed, opens_nothing, shells_by, opening};
+ghost use Rattle.tx_parts.specs.Opening.{Sheller, no_shells, opens_nothing, shells_by, opening};
 ghost use Rattle.tx_parts.specs.Composed.{evaluates};
 ghost use Rattle.tx_parts.specs.Layered.{layer_values, evaluates_in, composed_layers, composed_opened, composed_by};
 ghost use Rattle.tx_parts.specs.Shellers.{IsSheller};
-ghost use Rattle.tx_parts.specs.Parts.{HasTrace, stored, part_cost, parts_by, parts_in};
+ghost use Rattle.tx_parts.specs.Parts.{HasTrace, stored_part, part_cost, parts_by, parts_in};
 ghost use Rattle.tx_parts.specs.LayerCosts.{Holder, HoldsMore, StaysHeld, layer_costs_by, layer_costs_in};
 ghost use Rattle.tx_parts.specs.Fitting.{AllFit};
 ghost use Rattle.tx_parts.specs.Standing.{StandsIn};
@@ -26,9 +26,9 @@ ghost use Rattle.tx_parts.specs.Standing.{StandsIn};
 /// the tag's evaluation looks them up. An opener may open nothing.
 pub fn opener_law()
     ensures sheller { (opener : Opener) → IsOpener opener → IsSheller (shells_by opener) }
-    ensures closed { IsSheller closed }
+    ensures no_shells { IsSheller no_shells }
     ensures nothing { IsOpener opens_nothing }
-    ensures nothing_opened { shells_by opens_nothing ≡ closed }
+    ensures nothing_opened { shells_by opens_nothing ≡ no_shells }
 {}
 
 /// A law: a tag whose label has a macro, the body of which is layers of `with` round an argument, has the shell of
@@ -76,7 +76,7 @@ pub fn opened_fitting_law()
         AllFit (parts_by sheller k c path t e) (parts_by sheller k n path t d) }
     ensures same_stored { (sheller : Sheller) → IsSheller sheller → (k c n : ℕ) (path : List ℕ) (t : WideTree)
         (e d : Before) (trace : WideTrace) → evaluates k c t e ≡ Some trace → Agrees d trace.looks → trace.cost ≤ n →
-        map stored (parts_by sheller k n path t d) ≡ map stored (parts_by sheller k c path t e) }
+        map stored_part (parts_by sheller k n path t d) ≡ map stored_part (parts_by sheller k c path t e) }
     ensures all_traced { (sheller : Sheller) → IsSheller sheller → (k c : ℕ) (path : List ℕ) (t : WideTree)
         (e : Before) (trace : WideTrace) → evaluates k c t e ≡ Some trace →
         AllByRecursion HasTrace (parts_by sheller k c path t e) }
@@ -102,7 +102,8 @@ pub fn opened_cost_law()
     ensures inside { (held : Holder) (sheller : Sheller) → IsSheller sheller → (k : ℕ) (ls : List Layer) (i c : ℕ)
         (path : List ℕ) (t : WideTree) (e : Before) → sum_by part_cost (parts_in sheller k ls i c path t e)
         + layer_costs_in held sheller k ls c t e ≤ paid c (evaluates_in k ls i c t e) }
-    ensures nothing { (held : Holder) (k c : ℕ) (t : WideTree) (e : Before) → layer_costs_by held closed k c t e ≡ 0 }
+    ensures nothing { (held : Holder) (k c : ℕ) (t : WideTree) (e : Before)
+        → layer_costs_by held no_shells k c t e ≡ 0 }
     ensures fewer { (held more : Holder) (sheller : Sheller) → HoldsMore held more → (k c : ℕ) (t : WideTree)
         (e : Before) → layer_costs_by more sheller k c t e ≤ layer_costs_by held sheller k c t e }
     ensures again { (held : Holder) → StaysHeld held → (sheller : Sheller) → IsSheller sheller → (k c n : ℕ)

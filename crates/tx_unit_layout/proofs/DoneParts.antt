@@ -12,7 +12,7 @@ use Rattle.tx_exec_form.specs.Runs.{Before}
 use Rattle.tx_exec_form.specs.Evaluated.{WideTrace, evaluated_in, paid}
 use Rattle.tx_exec.specs.Outcomes.{wide_trace}
 use Rattle.tx_parts.specs.Composed.{alone, evaluates}
-use Rattle.tx_parts.specs.Parts.{Part, parts, part_trace, part_cost, Stored, stored}
+use Rattle.tx_parts.specs.Parts.{Part, parts, part_trace, part_cost, Stored, stored_part}
 use Rattle.tx_walk.specs.declared.part.Part.{Part as DonePart}
 use Rattle.tx_units.specs.declared.kinds.Unit.{Unit as DocUnit}
 use Rattle.tx_view_form.specs.Outcomes.{Moment, allowance, outcome}
@@ -23,7 +23,7 @@ use Rattle.tx_bridge.proofs.Used.{AllAllowed}
 use Rattle.tx_bridge.specs.Entries.{outcome_of}
 use Rattle.tx_bridge.specs.HeldParts.{kept_part, kept_parts}
 use Rattle.tx_bridge.specs.PartsKept.{has_parts, unit_parts, parts_if_done, fresh_parts}
-use Rattle.tx_bridge.specs.UnitLists.{IsPlaced}
+use Rattle.tx_bridge.specs.UnitLists.{HasPathIfBody}
 use Rattle.tx_bridge.proofs.ByParts.{is_alone}
 use Rattle.tx_unit_layout.proofs.Heads.{first_same, others_same}
 
@@ -46,7 +46,8 @@ some_size (leaf text) = omega arith
 some_size (node label ts) = omega arith
 
 -- a value is no larger than what its part costs
-part_size : AllSmall → (p : Part) (d : DonePart) → stored p ≡ kept_part d → size_of (plain d.trace.value) ≤ part_cost p
+part_size : AllSmall → (p : Part) (d : DonePart) → stored_part p ≡ kept_part d
+    → size_of (plain d.trace.value) ≤ part_cost p
 part_size law p d same =
     let is : part_trace p ≡ Some (wide_trace d.trace) = ap (λ (s : Stored). s.trace) same in
     let small : size_of (plain d.trace.value) ≤ d.trace.cost =
@@ -63,16 +64,16 @@ larger : (n m : ℕ) (ds : List DonePart) → n ≤ m → AllByRecursion (λ d. 
 larger n m [] le h = tt
 larger n m (d ∷ ds) le h = (omega (arith, le, h.0), larger n m ds le h.1)
 
-are_small : AllSmall → (ps : List Part) (ds : List DonePart) → map stored ps ≡ kept_parts ds
+are_small : AllSmall → (ps : List Part) (ds : List DonePart) → map stored_part ps ≡ kept_parts ds
     → AreSmall (sum_by part_cost ps) ds
 are_small law ps [] h = record { each = tt; count = omega arith }
 are_small law [] (d ∷ ds) h = cc
 are_small law (p ∷ ps) (d ∷ ds) h =
     let first : size_of (plain d.trace.value) ≤ part_cost p = part_size law p d
-    (first_same (stored p) (kept_part d) (map stored ps) (kept_parts ds) h) in
+    (first_same (stored_part p) (kept_part d) (map stored_part ps) (kept_parts ds) h) in
     let some : 1 ≤ size_of (plain d.trace.value) = some_size (plain d.trace.value) in
     let others : AreSmall (sum_by part_cost ps) ds = are_small law ps ds
-    (others_same (stored p) (kept_part d) (map stored ps) (kept_parts ds) h) in
+    (others_same (stored_part p) (kept_part d) (map stored_part ps) (kept_parts ds) h) in
     let all : sum_by part_cost (p ∷ ps) ≡ part_cost p + sum_by part_cost ps = sum_by-cons part_cost p ps in
     record {
       each = (
@@ -90,16 +91,16 @@ pub record AreDone (u : DocUnit) (trace : WideTrace) (ds : List DonePart) : Type
   pub small : All (λ d. size_of (plain d.trace.value) ≤ 1000000) ds
   pub whole : size_of (plain trace.value) ≤ 1000000
   pub evaluates : (c : ℕ) × (e : Before) × (evaluates MOST_LEVELS c u.tagged.tree e ≡ Some trace)
-      × (kept_values (map stored (parts MOST_LEVELS c [] u.tagged.tree e)) ≡ map done_value ds)
+      × (kept_values (map stored_part (parts MOST_LEVELS c [] u.tagged.tree e)) ≡ map done_value ds)
 
-module _ (m : Moment) (u : DocUnit) (trace : WideTrace) (ds : List DonePart) (placed : IsPlaced u)
+module _ (m : Moment) (u : DocUnit) (trace : WideTrace) (ds : List DonePart) (placed : HasPathIfBody u)
     (body : has_parts u ≡ true) (is : Some trace ≡ outcome_of m u) (fresh : kept_parts ds ≡ fresh_parts m u) where
   evaluates_there : evaluates MOST_LEVELS (allowance m) u.tagged.tree (get m.env) ≡ Some trace
   unfolding outcome
   evaluates_there =
       ap (λ t. evaluated_in MOST_LEVELS (allowance m) t (get m.env)) (sym (is_alone u placed body)) ∙ sym is
 
-  stored_there : map stored (unit_parts m u) ≡ kept_parts ds
+  stored_there : map stored_part (unit_parts m u) ≡ kept_parts ds
   stored_there =
       ap (λ o. parts_if_done o (unit_parts m u)) is
       ∙ sym (ap (λ b. if b then parts_if_done (outcome_of m u) (unit_parts m u) else []) body) ∙ sym fresh

@@ -8,14 +8,14 @@ ghost use Rattle.tx_exec_form.specs.declared.TheConstants.{MOST_LEVELS};
 ghost use Rattle.tx_exec_form.specs.Runs.{Before};
 ghost use Rattle.tx_exec.specs.Outcomes.{wide_trace};
 ghost use Rattle.tx_parts.specs.Composed.{evaluates};
-ghost use Rattle.tx_parts.specs.Parts.{parts as tree_parts, stored};
+ghost use Rattle.tx_parts.specs.Parts.{parts as tree_parts, stored_part};
 ghost use Rattle.tx_walk.specs.Walked.{paths_of};
 ghost use Rattle.tx_view_form.specs.Outcomes.{Moment};
 ghost use Rattle.tx_view_form.specs.Views.{paragraphs_at};
 ghost use Rattle.tx_bridge.specs.Entries.{outcome_of};
 ghost use Rattle.tx_bridge.specs.HeldParts.{kept_parts, flags_of_parts};
 ghost use Rattle.tx_bridge.specs.PartsKept.{has_parts, fresh_parts};
-ghost use Rattle.tx_bridge.specs.UnitLists.{IsPlaced};
+ghost use Rattle.tx_bridge.specs.UnitLists.{HasPathIfBody};
 ghost use Rattle.tx_part_items.specs.ShownParts.{kept_values};
 ghost use Rattle.tx_part_layout.specs.LaidParts.{items_in, done_value};
 ghost use Rattle.tx_unit_layout.specs.LaidAts.{laid_at, unit_items_anew};
@@ -40,7 +40,7 @@ use tx_walk::Part;
 // these parts its tree comes to its trace.
 fn done_parts_law(unit: &Unit, trace: &Trace, parts: &[Part])
     requires body { has_parts unit.now ≡ true }
-    requires placed { IsPlaced unit.now }
+    requires placed { HasPathIfBody unit.now }
     requires fresh { (m : Moment) × (Some (wide_trace trace.now) ≡ outcome_of m unit.now)
         × (kept_parts parts.now ≡ fresh_parts m unit.now) }
     ensures few { length parts.now ≤ 1000000 }
@@ -48,7 +48,8 @@ fn done_parts_law(unit: &Unit, trace: &Trace, parts: &[Part])
     ensures whole { size_of (plain trace.now.value) ≤ 1000000 }
     ensures evaluates { (c : ℕ) × (e : Before)
         × (evaluates MOST_LEVELS c unit.now.tagged.tree e ≡ Some (wide_trace trace.now))
-        × (kept_values (map stored (tree_parts MOST_LEVELS c [] unit.now.tagged.tree e)) ≡ map done_value parts.now) }
+        × (kept_values (map stored_part (tree_parts MOST_LEVELS c [] unit.now.tagged.tree e))
+        ≡ map done_value parts.now) }
 {
     size_law();
     cost_law();
@@ -71,7 +72,7 @@ pub(crate) fn lay_by_parts<L: Ledger>(
     requires least_width { 20 ≤ width }
     requires most_width { width ≤ 500 }
     requires body { has_parts unit.now ≡ true }
-    requires placed { IsPlaced unit.now }
+    requires placed { HasPathIfBody unit.now }
     requires distinct { IsDistinct bytes_eq (paths_of parts.now) }
     requires fresh { (m : Moment) × (Some (wide_trace trace.now) ≡ outcome_of m unit.now)
         × (kept_parts parts.now ≡ fresh_parts m unit.now) }

@@ -4,7 +4,7 @@ ghost use Rattle.std.specs.Prelude.{IsFalse, not};
 ghost use Rattle.std.specs.List.{filter};
 ghost use Rattle.tx_layout.specs.Paging.{Unmarked};
 ghost use Rattle.tx_part_layout.specs.LaidParts.{laid_paths, placed_lines};
-ghost use Rattle.tx_bridge.specs.InPlace.{begins};
+ghost use Rattle.tx_bridge.specs.InPlace.{begins_path};
 ghost use Rattle.tx_bridge.specs.MovedParts.{moves_of, places_by};
 ghost use Rattle.tx_unit_layout.specs.Moving.{wide_part, put_at, at_place, laid_by, is_told, part_by};
 
@@ -113,14 +113,14 @@ fn add_moved(
 
 // The path begins with that of the part.
 fn is_front(part: &PlacedPart, path: &Path) -> bool
-    ensures { result ≡ begins part.now.path path.now }
+    ensures { result ≡ begins_path part.now.path path.now }
 {
     path.steps().starts_with(part.path.steps())
 }
 
 // Of the parts those stay with whose path this one doesn't begin.
 fn drop_fronts(all: &mut Vec<PlacedPart>, path: &Path)
-    ensures { all.new.items ≡ filter (λ p. not (begins p.path path.now)) all.old.items }
+    ensures { all.new.items ≡ filter (λ p. not (begins_path p.path path.now)) all.old.items }
 {
     all.retain(|part| !is_front(part, path));
 }
@@ -168,7 +168,7 @@ impl LaidParts {
 
     /// Those stay with whose path this one doesn't begin.
     pub fn drop_fronts(&mut self, path: &Path)
-        ensures { self.new ≡ filter (λ p. not (begins p.path path.now)) self.old }
+        ensures { self.new ≡ filter (λ p. not (begins_path p.path path.now)) self.old }
     {
         self.marked = true;
         drop_fronts(&mut self.all, path);

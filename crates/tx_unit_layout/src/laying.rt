@@ -11,7 +11,7 @@ ghost use Rattle.tx_view_form.specs.Views.{paragraphs_at};
 ghost use Rattle.tx_bridge.specs.Entries.{outcome_of};
 ghost use Rattle.tx_bridge.specs.HeldParts.{kept_parts, flags_of_parts};
 ghost use Rattle.tx_bridge.specs.PartsKept.{fresh_parts};
-ghost use Rattle.tx_bridge.specs.UnitLists.{IsPlaced};
+ghost use Rattle.tx_bridge.specs.UnitLists.{HasPathIfBody};
 ghost use Rattle.tx_part_layout.specs.LaidParts.{items_in};
 ghost use Rattle.tx_unit_layout.specs.LaidAts.{laid_at, unit_items_anew};
 ghost use Rattle.tx_unit_layout.specs.LaidUnits.{WasLaid, IsLaidOut};
@@ -46,7 +46,7 @@ pub fn lay_unit<L: Ledger>(
     requires least_width { 20 ≤ width }
     requires most_width { width ≤ 500 }
     requires small { size_of (plain (unit_value (wide_outcome outcome.now))) ≤ 1000000 }
-    requires placed { IsPlaced unit.now }
+    requires placed { HasPathIfBody unit.now }
     requires distinct { IsDistinct bytes_eq (paths_of parts.now) }
     requires fresh { (m : Moment) × (wide_outcome outcome.now ≡ outcome_of m unit.now)
         × (kept_parts parts.now ≡ fresh_parts m unit.now) }

@@ -16,7 +16,7 @@ use Rattle.tx_units.specs.declared.kinds.Unit.{Unit as DocUnit}
 use Rattle.tx_part_layout.specs.declared.laid.PlacedPart.{PlacedPart}
 use Rattle.tx_part_layout.specs.LaidParts.{IsLaidPart}
 use Rattle.tx_bridge.specs.Entries.{Entry, Kept, units_of}
-use Rattle.tx_bridge.specs.InPlace.{begins}
+use Rattle.tx_bridge.specs.InPlace.{begins_path}
 use Rattle.tx_bridge.specs.HeldParts.{StoredHolds, StoredAllHold}
 use Rattle.tx_bridge.specs.Names.{StraysBeside}
 use Rattle.tx_bridge.specs.PartsKept.{KeptParts}
@@ -123,7 +123,7 @@ placed_bare i kept u ps there bare = sym (placed_by i kept (Some u) None ps ther
 
 pub placed_there : (i : ℕ) (kept : Kept) (u : DocUnit) (path : List ℕ) (ps qs : List PlacedPart)
     → option_map (λ e. e.unit) (slice_get kept i) ≡ Some u → u.path ≡ Some path
-    → qs ≡ filter (λ p. not (begins p.path path)) ps → qs ≡ placed_beside i (units_of kept) ps
+    → qs ≡ filter (λ p. not (begins_path p.path path)) ps → qs ≡ placed_beside i (units_of kept) ps
 placed_there i kept u path ps qs there is left = left ∙ sym (placed_by i kept (Some u) (Some path) ps there is)
 
 -- ---- what is kept of them

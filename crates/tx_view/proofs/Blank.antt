@@ -14,7 +14,7 @@ use Rattle.tx_doc.specs.declared.buffer.Buffer.{Buffer}
 use Rattle.tx_units.specs.declared.kinds.Unit.{Unit as DocUnit}
 use Rattle.tx_items.specs.declared.attributes.Attrs.{Attrs}
 use Rattle.tx_bridge.specs.Entries.{Kept, nothing_kept}
-use Rattle.tx_bridge.specs.Names.{Empty as EmptyKept, EmptyParts}
+use Rattle.tx_bridge.specs.Names.{EmptyTraces as EmptyKept, EmptyParts}
 use Rattle.tx_bridge.specs.PartMoves.{Move}
 use Rattle.tx_bridge.specs.PartsKept.{KeptParts}
 use Rattle.tx_unit_layout.specs.LaidAts.{LaidAt, laid_at}

@@ -18,7 +18,7 @@ use Rattle.tx_mod.proofs.Back.{made_of}
 use Rattle.tx_mod.proofs.Replacing.{down, replaced_down}
 use Rattle.tx_units.specs.Inside.{AreSameBut}
 use Rattle.tx_units.proofs.Exchanged.{child_of}
-use Rattle.tx_bridge.specs.InPlace.{begins, is_gone, are_within}
+use Rattle.tx_bridge.specs.InPlace.{begins_path, is_gone, are_within}
 
 -- ---- one subtree replaced
 
@@ -67,10 +67,10 @@ both_beside (i ∷ p) t u w h k =
 
 -- ---- modifications below a path
 
-front_is : (p q : List ℕ) → begins p q ≡ true → q ≡ p ++ drop (length p) q
+front_is : (p q : List ℕ) → begins_path p q ≡ true → q ≡ p ++ drop (length p) q
 front_is p q e = (starts_is Decides-eqb q p (starts_with nat_eq q p) refl).0 e
 
-one_beside : (m : Mod) (t u : WideTree) (p : List ℕ) → begins p (path_of m) ≡ true → changed m t ≡ Ok u
+one_beside : (m : Mod) (t u : WideTree) (p : List ℕ) → begins_path p (path_of m) ≡ true → changed m t ≡ Ok u
     → AreSameBut p t u
 one_beside m t u p inside made =
     let d = made_of m t u made in
@@ -84,8 +84,8 @@ beside_step : (m : Mod) (ms : List Mod) (t u : WideTree) (p : List ℕ) → are_
     → changed_by_all (m ∷ ms) t ≡ Some u → AreSameBut p t u
 beside_step m ms t u p inside next made = by (changed m t) refl made
   where
-    both : (begins p (path_of m) ≡ true) × (are_within p ms ≡ true)
-    both = and_parts (begins p (path_of m)) (are_within p ms) inside
+    both : (begins_path p (path_of m) ≡ true) × (are_within p ms ≡ true)
+    both = and_parts (begins_path p (path_of m)) (are_within p ms) inside
 
     by : (o : Outcome) → changed m t ≡ o → option_and_then (changed_by_all ms) (outcome_tree o) ≡ Some u
         → AreSameBut p t u

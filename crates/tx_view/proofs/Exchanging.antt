@@ -18,7 +18,7 @@ use Rattle.tx_part_layout.specs.declared.laid.PlacedPart.{PlacedPart}
 use Rattle.tx_bridge.specs.Carrying.{HaveSameTrees}
 use Rattle.tx_bridge.specs.Entries.{Entry, Kept, units_of}
 use Rattle.tx_bridge.specs.InPlace.{IsOneChanged, NoneChanged, is_changed, is_gone, are_within, numbers_but}
-use Rattle.tx_bridge.specs.Names.{Carry, Sources}
+use Rattle.tx_bridge.specs.Names.{CarryTraces, Sources}
 use Rattle.tx_bridge.specs.UnitLists.{AreUnits}
 use Rattle.tx_view.specs.Exchanged.{IsNow, IsExchanged, stays_alone, exchanged_from, exchanged_in}
 use Rattle.tx_view.specs.Laid.{IsTarget}
@@ -194,13 +194,13 @@ pub record IsInPlace (buffer i : ℕ) (silent : Bool) (ps : List PlacedPart) (ms
     (kept new : Kept) (ss : List (Option ℕ)) (vs : List DocUnit) : Type 0 where
   pub target : IsTarget (units_of kept) vs ss (InPlace i silent ps)
   pub same_trees : HaveSameTrees (units_of kept) vs ss
-  pub kept_is : new ≡ Carry buffer ms t kept vs
+  pub kept_is : new ≡ CarryTraces buffer ms t kept vs
   pub sources : ss ≡ Sources buffer ms t (units_of kept) vs
   pub units_are : units_of new ≡ vs
 
 in_place : (buffer i : ℕ) (silent : Bool) (ps : List PlacedPart) (ms : List Mod) (t before x : WideTree)
     (kept new : Kept) (ss : List (Option ℕ)) (vs : List DocUnit) → buffer ≡ 0 → t ≡ before
-    → vs ≡ units_with i x (units_of kept) → new ≡ Carry 0 ms before kept (units_with i x (units_of kept))
+    → vs ≡ units_with i x (units_of kept) → new ≡ CarryTraces 0 ms before kept (units_with i x (units_of kept))
     → ss ≡ Sources 0 ms before (units_of kept) (units_with i x (units_of kept))
     → ss ≡ numbers_but i 0 (length (units_of kept)) → units_of new ≡ units_with i x (units_of kept)
     → IsInPlace buffer i silent ps ms t kept new ss vs
@@ -210,8 +210,8 @@ in_place buffer i silent ps ms t before x kept new ss vs first at now carried so
       target = target_with i silent ps x us vs ss now numbers;
       same_trees = same_with i (length us) x us vs ss now numbers;
       kept_is =
-          carried ∙ ap (λ ws. Carry 0 ms before kept ws) (sym now) ∙ ap (λ w. Carry 0 ms w kept vs) (sym at)
-          ∙ ap (λ k. Carry k ms t kept vs) (sym first);
+          carried ∙ ap (λ ws. CarryTraces 0 ms before kept ws) (sym now) ∙ ap (λ w. CarryTraces 0 ms w kept vs) (sym at)
+          ∙ ap (λ k. CarryTraces k ms t kept vs) (sym first);
       sources =
           sources ∙ ap (λ ws. Sources 0 ms before us ws) (sym now) ∙ ap (λ w. Sources 0 ms w us vs) (sym at)
           ∙ ap (λ k. Sources k ms t us vs) (sym first);
@@ -223,7 +223,7 @@ pub carried_at : (bs after : List Buffer) (buffer i : ℕ) (silent : Bool) (ps :
     (d : Buffer) (t x : WideTree) (kept new : Kept) (ss : List (Option ℕ)) → ChangesOne bs i t x → 1 ≤ length bs
     → buffer < length bs → IsExchanged i buffer ms t x (units_of kept) → units_of kept ≡ units bs
     → after ≡ with_tree bs buffer t → changed_by_all ms (tree_of bs buffer) ≡ Some t
-    → new ≡ Carry 0 ms (slice_index_or bs buffer d).tree kept (units_with i x (units_of kept))
+    → new ≡ CarryTraces 0 ms (slice_index_or bs buffer d).tree kept (units_with i x (units_of kept))
     → ss ≡ Sources 0 ms (slice_index_or bs buffer d).tree (units_of kept) (units_with i x (units_of kept))
     → ss ≡ numbers_but i 0 (length (units_of kept)) → units_of new ≡ units_with i x (units_of kept)
     → IsInPlace buffer i silent ps ms (tree_of bs buffer) kept new ss (units after)

@@ -19,7 +19,7 @@ use Rattle.tx_view_form.specs.Started.{attributes_of}
 use Rattle.tx_bridge.specs.Entries.{Entry, Kept, units_of, traces_of, fresh_from, outcome_of}
 use Rattle.tx_bridge.specs.Carrying.{had, taken_from}
 use Rattle.tx_bridge.specs.InPlace.{numbers_but}
-use Rattle.tx_bridge.specs.Names.{Sources, Carry as CarryKept}
+use Rattle.tx_bridge.specs.Names.{Sources, CarryTraces as CarryKept}
 use Rattle.tx_bridge.specs.PartsKept.{KeptParts}
 use Rattle.tx_view.specs.declared.carrying.Target.{Target}
 use Rattle.tx_view.specs.declared.carrying.Target.TheVariants.{InPlace}

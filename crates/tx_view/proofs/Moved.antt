@@ -23,7 +23,7 @@ use Rattle.tx_bridge.specs.Entries.{Entry, Kept, units_of, traces_of}
 use Rattle.tx_bridge.specs.Carrying.{unit_places_after, sources_from, had, taken_from, mods_of, HaveSameTrees}
 use Rattle.tx_bridge.specs.Carrying.{source, number_at, same_number, same_unit, is_path}
 use Rattle.tx_bridge.specs.HeldParts.{AllPartsHold}
-use Rattle.tx_bridge.specs.Names.{Sources, Carry as CarryKept, CarryParts, CarryStrays, PartMoves}
+use Rattle.tx_bridge.specs.Names.{Sources, CarryTraces as CarryKept, CarryParts, CarryStrays, PartMoves}
 use Rattle.tx_bridge.specs.PartMoves.{Move, parts_now, all_parts_now}
 use Rattle.tx_bridge.specs.PartsKept.{KeptParts}
 use Rattle.tx_part_items.specs.ItemsUnder.{paragraph_under}

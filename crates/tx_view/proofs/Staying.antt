@@ -23,7 +23,7 @@ use Rattle.tx_bridge.specs.CarryingParts.{carried_below, parts_within, parts_but
 use Rattle.tx_bridge.specs.Entries.{Entry, Kept, units_of, traces_of}
 use Rattle.tx_bridge.specs.HeldParts.{AllPartsHold}
 use Rattle.tx_bridge.specs.InPlace.{numbers_but}
-use Rattle.tx_bridge.specs.Names.{Sources, Carry as CarryKept, CarryParts, CarryStrays, CarryWithin, PartMoves}
+use Rattle.tx_bridge.specs.Names.{Sources, CarryTraces as CarryKept, CarryParts, CarryStrays, CarryWithin, PartMoves}
 use Rattle.tx_bridge.specs.PartMoves.{Move}
 use Rattle.tx_bridge.specs.Strays.{is_beside, path_at}
 use Rattle.tx_bridge.specs.PartsKept.{KeptParts}

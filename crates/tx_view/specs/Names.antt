@@ -10,7 +10,7 @@ use Rattle.tx_bridge.specs.Carrying.{had}
 use Rattle.tx_bridge.specs.Entries.{units_of, nothing_kept}
 use Rattle.tx_bridge.specs.Sound.{AllHold}
 use Rattle.tx_bridge.specs.HeldParts.{AllPartsHold, StoredAllHold}
-use Rattle.tx_bridge.specs.Names.{Charge, Sources, Carry as CarryKept}
+use Rattle.tx_bridge.specs.Names.{Charge, Sources, CarryTraces as CarryKept}
 use Rattle.tx_view.specs.Exchanged.{parts_after, strays_after, laid_parts_after, laid_strays_after}
 use Rattle.tx_view.specs.Costs.{items_relaid_from}
 use Rattle.tx_view.specs.Stores.{ViewStores, fresh_stores, IsOfKeptPart, AllLaidAreKept}

@@ -8,7 +8,7 @@ ghost use Rattle.tx_doc.specs.Buffers.{document_of, tree_of, with_tree};
 ghost use Rattle.tx_units.specs.Units.{units, made};
 ghost use Rattle.tx_bridge.specs.Entries.{Entry, units_of};
 ghost use Rattle.tx_bridge.specs.MovedParts.{moves_of};
-ghost use Rattle.tx_bridge.specs.Names.{Carry, CarryParts, CarryStrays, PartMoves, Sources};
+ghost use Rattle.tx_bridge.specs.Names.{CarryTraces, CarryParts, CarryStrays, PartMoves, Sources};
 ghost use Rattle.tx_bridge.specs.Strays.{StandAside, kept_strays};
 ghost use Rattle.tx_bridge.specs.Settled.{IsSilent};
 ghost use Rattle.tx_bridge.specs.UnitLists.{AreUnits};
@@ -331,7 +331,7 @@ fn carried_anew<L: Ledger>(
         (units after.now) new.items strays.new) }
     ensures few { IfOk result (λ new. length new.items < 2 ^ 32) }
     ensures carried { OnOk result
-        (bridges.new.kept ≡ Carry buffer mods.now before.now bridges.old.kept (units after.now)) }
+        (bridges.new.kept ≡ CarryTraces buffer mods.now before.now bridges.old.kept (units after.now)) }
     ensures parts { OnOk result (bridges.new.parts ≡ CarryParts bridges.old.parts
         (PartMoves buffer mods.now before.now (units_of bridges.old.kept) bridges.old.parts
         (kept_strays bridges.old.strays) (units after.now)) bridges.new.sources) }
@@ -466,7 +466,7 @@ fn carried_kept<L: Ledger>(
     ensures few { IfOk result (λ to. IsFew to) }
     ensures silent { IfOk result (λ to. SetNoName bridges.old.kept to) }
     ensures kept { OnOk result (bridges.new.kept
-        ≡ Carry buffer mods.now (tree_of buffers.now buffer) bridges.old.kept (units after.now)) }
+        ≡ CarryTraces buffer mods.now (tree_of buffers.now buffer) bridges.old.kept (units after.now)) }
     ensures parts { OnOk result (bridges.new.parts ≡ parts_after buffer mods.now (tree_of buffers.now buffer)
         (units_of bridges.old.kept) bridges.old.parts (kept_strays bridges.old.strays) (units after.now)
         bridges.new.sources) }
@@ -535,7 +535,8 @@ pub(crate) fn carried<L: Ledger>(
         (units (with_tree buffers.now buffer tree.now)) bridges.new.sources p.1) }
     ensures way { IfOk result (λ p. IsWay buffer mods.now (tree_of buffers.now buffer) (units_of bridges.old.kept)
         (units (with_tree buffers.now buffer tree.now)) bridges.new.sources p.1) }
-    ensures kept { OnOk result (bridges.new.kept ≡ Carry buffer mods.now (tree_of buffers.now buffer) bridges.old.kept
+    ensures kept { OnOk result (bridges.new.kept ≡ CarryTraces buffer mods.now (tree_of buffers.now buffer)
+        bridges.old.kept
         (units (with_tree buffers.now buffer tree.now))) }
     ensures parts { OnOk result (bridges.new.parts ≡ parts_after buffer mods.now (tree_of buffers.now buffer)
         (units_of bridges.old.kept) bridges.old.parts (kept_strays bridges.old.strays)

@@ -92,7 +92,7 @@ pub(crate) fn forget_all_parts(units: &mut [Shown])
 
 /// Evaluates the units of which nothing fits. What was laid out of them isn't theirs any more. Answers the charges, and
 /// whether no other unit than number `lone` was evaluated anew. False says nothing.
-#[tactic(auto, unfolding(tx_bridge::specs::Names::Fresh, tx_bridge::specs::Names::FreshParts))]
+#[tactic(auto, unfolding(tx_bridge::specs::Names::FreshTraces, tx_bridge::specs::Names::FreshParts))]
 pub(crate) fn evaluate<L: Ledger>(
     alloc: Global,
     bridges: &mut Bridges,

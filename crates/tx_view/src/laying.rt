@@ -14,7 +14,7 @@ ghost use Rattle.tx_view_form.specs.Errors.{errors_of};
 ghost use Rattle.tx_bridge.specs.Entries.{Entry, units_of, fresh_from, outcome_of};
 ghost use Rattle.tx_bridge.specs.PartsKept.{KeptParts, fresh_parts, fresh_parts_from};
 ghost use Rattle.tx_bridge.specs.HeldParts.{kept_parts, flags_of_parts};
-ghost use Rattle.tx_bridge.specs.UnitLists.{IsPlaced};
+ghost use Rattle.tx_bridge.specs.UnitLists.{HasPathIfBody};
 ghost use Rattle.tx_walk.specs.Walked.{paths_of};
 ghost use Rattle.tx_unit_layout.specs.LaidAts.{laid_at, unit_items_anew};
 ghost use Rattle.tx_view.specs.Variables.{AreVariables};
@@ -55,7 +55,7 @@ fn lay<L: Ledger>(
     requires least_width { 20 ≤ width }
     requires most_width { width ≤ 500 }
     requires small { size_of (plain (unit_value (wide_outcome outcome.now))) ≤ 1000000 }
-    requires placed { IsPlaced unit.now }
+    requires placed { HasPathIfBody unit.now }
     requires distinct { IsDistinct bytes_eq (paths_of parts.now) }
     requires fresh { (m : WideMoment) × (wide_outcome outcome.now ≡ outcome_of m unit.now)
         × (kept_parts parts.now ≡ fresh_parts m unit.now) }

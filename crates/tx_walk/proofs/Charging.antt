@@ -7,7 +7,7 @@ use Rattle.tx_tree.specs.WideTree.{WideTree}
 use Rattle.tx_exec_form.specs.Runs.{Before}
 use Rattle.tx_exec_form.specs.Evaluated.{paid}
 use Rattle.tx_parts.specs.Shells.{Layer}
-use Rattle.tx_parts.specs.Opening.{closed, opens_nothing, shells_by}
+use Rattle.tx_parts.specs.Opening.{no_shells, opens_nothing, shells_by}
 use Rattle.tx_parts.specs.Shellers.{IsSheller}
 use Rattle.tx_parts.specs.Composed.{evaluates}
 use Rattle.tx_parts.specs.Layered.{evaluates_in}
@@ -15,11 +15,11 @@ use Rattle.tx_parts.specs.Parts.{Part, part_cost, parts, parts_by, parts_in}
 use Rattle.tx_parts.specs.LayerCosts.{Holder, layer_costs_by, layer_costs_in}
 use Rattle.tx_parts.proofs.Costing.{paid_most, in_most, parts_cost, all_cost, all_cost_in, closed_costs}
 use Rattle.tx_parts.proofs.Openers.{closed_by_nothing}
-use Rattle.tx_walk.specs.Held.{Stores, is_held, charge_of, charges}
+use Rattle.tx_walk.specs.Held.{Stores, is_part_held, charge_of, charges}
 use Rattle.tx_walk.specs.Guides.{Guide, charged, charged_in}
 
 charge_less : (kept : Stores) (p : Part) → charge_of kept p ≤ part_cost p
-charge_less kept p = by (is_held kept p)
+charge_less kept p = by (is_part_held kept p)
   where
     by : (b : Bool) → (if b then 0 else part_cost p) ≤ part_cost p
     by true = omega arith
@@ -86,6 +86,6 @@ pub nothing_opened : (kept : Stores) (held : Holder) (k c : ℕ) (path : List �
     charged (record { stores = kept; sheller = shells_by opens_nothing; holder = held }) k c path t e ≡
     charges kept (parts k c path t e)
 nothing_opened kept held k c path t e =
-    let none : layer_costs_by held closed k c t e ≡ 0 = closed_costs held k c t e in
+    let none : layer_costs_by held no_shells k c t e ≡ 0 = closed_costs held k c t e in
     ap (λ s. charged (record { stores = kept; sheller = s; holder = held }) k c path t e) closed_by_nothing
     ∙ omega (arith, none)

@@ -27,7 +27,7 @@ use Rattle.tx_walk.specs.Held.{charge_of, charges}
 use Rattle.tx_walk.specs.Guides.{Guide, charged, charged_from}
 use Rattle.tx_walk.specs.LayerTraces.{TreeTrace, holds_in, LayersKnown, AreKnownBy}
 use Rattle.tx_walk.specs.Walked.{seen, seen_in}
-use Rattle.tx_walk.specs.Steps.{trace_under, IsBehind, IsAdded, with_trace, IsJoined, below, Stage, ChildDone}
+use Rattle.tx_walk.specs.Steps.{trace_under, IsBehind, IsAdded, joined_with, IsJoined, below, Stage, ChildDone}
 use Rattle.tx_walk.specs.Steps.{ChildOver}
 use Rattle.tx_walk.specs.Steps.{ChildComes, ChildrenDone, ChildrenOver}
 
@@ -59,7 +59,7 @@ module _ (guide : Guide) (k c : ℕ) (path : List ℕ) (i : ℕ) (t : WideTree) 
       record {
         trace = w;
         comes = q;
-        joined = joined.1 ∙ ap (with_trace a) same;
+        joined = joined.1 ∙ ap (joined_with a) same;
         names = behind ∙ ap (λ m. env_atop m names) writes;
         done = is_added;
         count = counted;
@@ -182,7 +182,7 @@ values_more base i vs v =
     ∙ sym (map-append (value_under base) vs (value_under (i ∷ []) v ∷ []))
 
 below_more : (base : List ℕ) (i : ℕ) (a : SoFar) (w : WideTrace) →
-    with_trace (below base a) (trace_under (base ++ i ∷ []) w) ≡ below base (with_child i a w)
+    joined_with (below base a) (trace_under (base ++ i ∷ []) w) ≡ below base (with_child i a w)
 below_more base i a w =
     ap (λ vs. record {
       values = vs;
@@ -275,7 +275,7 @@ module _ (guide : Guide) (k c : ℕ) (path : List ℕ) (kids : List WideTree) (s
         so_far = with_child i g.so_far d.trace;
         run = run_at ∙ ap (option_and_then (λ trace. children_from (evaluates k) c (i + 1)
             (with_child i g.so_far trace) (drop (i + 1) kids) s.names)) comes;
-        joined = d.joined ∙ ap (λ a. with_trace a (trace_under (path ++ i ∷ []) d.trace)) g.joined
+        joined = d.joined ∙ ap (λ a. joined_with a (trace_under (path ++ i ∷ []) d.trace)) g.joined
             ∙ below_more path i g.so_far d.trace;
         names = d.names ∙ ap (env_atop d.trace.writes) g.names
             ∙ sym (atop_twice d.trace.writes g.so_far.writes s.names);

@@ -27,7 +27,7 @@ use Rattle.tx_parts.proofs.LayerValues.{text_traced, pairs_more}
 use Rattle.tx_parts.proofs.Running.{none_there}
 use Rattle.tx_parts.proofs.Restoring.{atop_empty}
 use Rattle.tx_parts.proofs.PartRuns.{atop_twice, none_allowed}
-use Rattle.tx_walk.specs.Steps.{with_trace, IsJoined}
+use Rattle.tx_walk.specs.Steps.{joined_with, IsJoined}
 use Rattle.tx_walk.specs.SameTrees.{is_same}
 use Rattle.tx_walk.specs.Held.{agrees}
 use Rattle.tx_walk.specs.LayerTraces.{TreeTrace, DoneSetting, serves_for, IsHeldWith, AllHeldBy}
@@ -67,7 +67,7 @@ traced_bare path k c t e trace h = bare_under path t trace.value (comes k c (bar
 
 -- so it stands among the others as it is
 pub child_bare : (i k c : ℕ) (a : SoFar) (t : WideTree) (e : Before) (trace : WideTrace) →
-    evaluates_bare k c t e ≡ Some trace → with_child i a trace ≡ with_trace a trace
+    evaluates_bare k c t e ≡ Some trace → with_child i a trace ≡ joined_with a trace
 child_bare i k c a t e trace h =
     ap (λ v. record {
       values = a.values ++ v ∷ [];
@@ -97,11 +97,11 @@ joined_none a b None h = refl
 joined_none a b (Some w) h = let off : false ≡ true = h.0 in cc
 
 joined_name : (c : ℕ) (x : Name) (a b : SoFar) → IsJoined a b (name_outcome c x) true →
-    (name_outcome c x ≡ Some (name_trace x)) × (b ≡ with_trace a (name_trace x))
+    (name_outcome c x ≡ Some (name_trace x)) × (b ≡ joined_with a (name_trace x))
 joined_name c x a b h = by (nat_le (1 + length x) c) h
   where
     by : (d : Bool) → IsJoined a b (if d then Some (name_trace x) else None) true →
-        ((if d then Some (name_trace x) else None) ≡ Some (name_trace x)) × (b ≡ with_trace a (name_trace x))
+        ((if d then Some (name_trace x) else None) ≡ Some (name_trace x)) × (b ≡ joined_with a (name_trace x))
     by true g = (refl, g.1)
     by false g = let off : true ≡ false = g in absurd cc
 
@@ -122,7 +122,7 @@ module _ (held : Holder) (k c : ℕ) (x : Name) (t : WideTree) (s s1 : LayerStag
       TreeComes held k c x t (record s { joined = b }) s1 went → SettingComes held k c x t s s1 went
   setting_comes b went some h g = by went (subst (λ a. TreeComes held k c x t (record s { joined = a }) s1 went) is g)
     where
-      is : b ≡ with_trace s.joined (name_trace x)
+      is : b ≡ joined_with s.joined (name_trace x)
       is = (joined_name (c - s.joined.cost) x s.joined b h).1
 
       named : evaluates_bare k (c - s.joined.cost) (leaf x) s.names ≡ Some (name_trace x)
@@ -159,14 +159,14 @@ held_over m k c e supports fits dear =
 -- a tree that is done, by what it is told as
 pub tree_done : (held : Holder) (k c : ℕ) (x : Name) (t : WideTree) (s s1 : LayerStage) (z : DoneSetting)
     (trace : WideTrace) → evaluates_bare k (c - s.joined.cost) t s.names ≡ Some trace →
-    z ≡ setting_of held x t s.names trace → s1.joined ≡ with_trace s.joined z.done.trace →
+    z ≡ setting_of held x t s.names trace → s1.joined ≡ joined_with s.joined z.done.trace →
     s1.settings ≡ s.settings ++ z ∷ [] → s1.names ≡ env_atop z.done.trace.writes s.names →
     s1.count ≡ s.count + (if held t s.names then 0 else trace.cost) → TreeDone held k c x t s s1
 tree_done held k c x t s s1 z trace comes is joined settings names count =
     record {
       trace = trace;
       comes = comes;
-      joined = joined ∙ ap (λ (y : DoneSetting). with_trace s.joined y.done.trace) is;
+      joined = joined ∙ ap (λ (y : DoneSetting). joined_with s.joined y.done.trace) is;
       settings = settings ∙ ap (λ y. s.settings ++ y ∷ []) is;
       names = names ∙ ap (λ (y : DoneSetting). env_atop y.done.trace.writes s.names) is;
       count = count;
@@ -258,7 +258,7 @@ one_taken {X} (y ∷ ys) (suc n) x h =
     ap (λ m. take m (y ∷ ys)) number ∙ ap (λ zs. y ∷ zs) (one_taken {X = X} ys n x h)
 
 -- the name sets nothing
-name_env : (x : Name) (a : SoFar) (e : Before) → env_atop (with_trace a (name_trace x)).writes e ≡ env_atop a.writes e
+name_env : (x : Name) (a : SoFar) (e : Before) → env_atop (joined_with a (name_trace x)).writes e ≡ env_atop a.writes e
 name_env x a e = atop_twice empty a.writes e ∙ atop_empty (env_atop a.writes e)
 
 sums_three : (a b c : ℕ) → a + (b + c) ≡ (a + b) + c
@@ -284,7 +284,7 @@ module _ (held : Holder) (k c : ℕ) (l : Layer) (s : LayerStage) (i : ℕ) (s1 
 
   -- behind the name
   abbrev named : SoFar
-  named = with_trace s1.joined (name_trace x)
+  named = joined_with s1.joined (name_trace x)
 
   run_now : children_from (evaluates_bare k) c 0 nothing_yet (in_turn l.names l.trees) s.names ≡
       children_from (evaluates_bare k) c g.number s1.joined (in_turn (x ∷ xs) (t ∷ ts)) s.names

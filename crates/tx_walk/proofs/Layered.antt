@@ -44,7 +44,7 @@ use Rattle.tx_walk.specs.Steps.{trace_under, IsBehind, IsAdded}
 use Rattle.tx_walk.specs.LayerTraces.{TreeTrace, holds_in, AllHeldBy, AreKnownBy, AreKnownIn}
 use Rattle.tx_walk.specs.Layers.{pairs_of_settings, set_sizes, new_nodes, LayerStage, LayerDone, LayerOver}
 use Rattle.tx_walk.proofs.Known.{known_as, all_more}
-use Rattle.tx_walk.specs.Shelled.{step_more, look_before, IsCounted, layer_by, FitsLayer, BehindLayer}
+use Rattle.tx_walk.specs.Shelled.{step_more, look_before, IsCountedTrace, layer_by, FitsLayer, BehindLayer}
 use Rattle.tx_walk.proofs.Charging.{none_inside as nothing_inside}
 use Rattle.tx_walk.proofs.LayerSteps.{traced_bare}
 use Rattle.tx_walk.proofs.Within.{set_atop}
@@ -75,13 +75,13 @@ behind_as f keeps e e1 (Some u) (Some w) g h =
 -- what is counted, where k and c are one more
 counted_as : (path : List ℕ) (k c : ℕ) (x o : Option WideTrace) → ((w : WideTrace) → x ≡ Some w →
     (w.cost ≤ c - 1) × (w.height ≤ k - 1)) → o ≡ option_map (trace_under path) x → 0 < k → 0 < c → k ≤ 400 →
-    c ≤ 1000000 → IfSome o IsCounted
+    c ≤ 1000000 → IfSome o IsCountedTrace
 counted_as path k c x None most g some left low few = tt
 counted_as path k c None (Some u) most g some left low few = cc
 counted_as path k c (Some w) (Some u) most g some left low few =
     let same : trace_under path w ≡ u = sym cc in
     let bounds : (w.cost ≤ c - 1) × (w.height ≤ k - 1) = most w refl in
-    subst IsCounted same (record {
+    subst IsCountedTrace same (record {
       cost = omega (arith, bounds.0, left, few);
       height = omega (arith, bounds.1, some, low);
     })
@@ -181,7 +181,7 @@ module _ (guide : Guide) (k c i : ℕ) (path : List ℕ) (t : WideTree) (e : Bef
             height = 1 + w.height;
           })) (under_nested path (i ∷ []) w.value)
 
-      pub child_counted : k ≤ 400 → c ≤ 1000000 → IfSome o IsCounted
+      pub child_counted : k ≤ 400 → c ≤ 1000000 → IfSome o IsCountedTrace
       child_counted low few =
           counted_as below k c (evaluates (k - 1) (c - 1) t e) o
           (λ w h. allowed (k - 1) (c - 1) (alone t) e w h) comes some left low few
@@ -254,7 +254,7 @@ module _ (guide : Guide) (k c : ℕ) (path : List ℕ) (t : WideTree) (shell : S
         by None = refl
         by (Some w) = refl
 
-    pub tag_counted : k ≤ 400 → c ≤ 1000000 → IfSome o IsCounted
+    pub tag_counted : k ≤ 400 → c ≤ 1000000 → IfSome o IsCountedTrace
     tag_counted low few =
         counted_as path k c (evaluates_in (k - 1) shell.layers shell.inner (c - 1) u e) o
         (λ w h. in_bounded (k - 1) shell.layers shell.inner (c - 1) u e w h) comes some left low few

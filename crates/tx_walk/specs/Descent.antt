@@ -25,6 +25,6 @@ pub record AreSettings (base : List ℕ) (ps : TextSettings) (s : Settings) : Ty
   pub cost : s.cost ≡ settings_cost ps
 
 -- they cost no more than this, or more
-abbrev pub Goes : ℕ → List ℕ → TextSettings → Settings → Bool → Type 0
-Goes left base ps s true = AreSettings base ps s
-Goes left base ps s false = left < settings_cost ps
+abbrev pub SettingsFit : ℕ → List ℕ → TextSettings → Settings → Bool → Type 0
+SettingsFit left base ps s true = AreSettings base ps s
+SettingsFit left base ps s false = left < settings_cost ps

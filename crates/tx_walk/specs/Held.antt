@@ -39,12 +39,12 @@ abbrev pub only : Store → Stores
 only kept = record { own = kept; spare = λ path. None }
 
 -- a part is held where what is kept at its path fits, or what the spare has there
-abbrev pub is_held : Stores → Part → Bool
-is_held kept p = serves kept.own p || serves kept.spare p
+abbrev pub is_part_held : Stores → Part → Bool
+is_part_held kept p = serves kept.own p || serves kept.spare p
 
 -- what a part costs, unless it is held
 abbrev pub charge_of : Stores → Part → ℕ
-charge_of kept p = if is_held kept p then 0 else part_cost p
+charge_of kept p = if is_part_held kept p then 0 else part_cost p
 
 -- the costs of the parts that aren't held
 abbrev pub charges : Stores → List Part → ℕ

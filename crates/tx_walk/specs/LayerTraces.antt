@@ -94,7 +94,7 @@ AreKnownIn sheller k ls c t e old new o = AreKnown (λ held. layer_costs_in held
 abbrev coded_looks : Coded LookMap
 coded_looks = code (coded_list coded_ℕ) (coded_option coded_WideTree)
 
-abbrev coded_trace : Coded WideTrace
+abbrev pub coded_trace : Coded WideTrace
 coded_trace =
     code_by (WideValue × (LookMap × (NameMap × (ℕ × ℕ))))
     (coded× coded_WideValue (coded× coded_looks (coded× coded_NameMap (coded× coded_ℕ coded_ℕ))))

@@ -16,7 +16,7 @@ use Rattle.tx_parts.specs.Layered.{evaluates_bare, layer_pairs}
 use Rattle.tx_parts.specs.LayerCosts.{Holder, TreeMeasure, set_nodes, tree_counts_from}
 use Rattle.tx_walk.specs.declared.layers.LayerSoFar.{LayerSoFar}
 use Rattle.tx_walk.specs.LayerTraces.{DoneSetting, AllHeldBy}
-use Rattle.tx_walk.specs.Steps.{so_far_of, with_trace}
+use Rattle.tx_walk.specs.Steps.{so_far_of, joined_with}
 
 -- ---- what names and values are
 
@@ -70,7 +70,7 @@ setting_of held x t e trace =
 pub record TreeDone (held : Holder) (k c : ℕ) (x : Name) (t : WideTree) (s s1 : LayerStage) : Type 0 where
   pub trace : WideTrace
   pub comes : evaluates_bare k (c - s.joined.cost) t s.names ≡ Some trace
-  pub joined : s1.joined ≡ with_trace s.joined trace
+  pub joined : s1.joined ≡ joined_with s.joined trace
   pub settings : s1.settings ≡ s.settings ++ setting_of held x t s.names trace ∷ []
   pub names : s1.names ≡ env_atop trace.writes s.names
   pub count : s1.count ≡ s.count + (if held t s.names then 0 else trace.cost)
@@ -86,7 +86,7 @@ TreeComes held k c x t s s1 false = TreeOver held k c t s s1
 
 -- with the name x more
 abbrev pub behind_name : Name → LayerStage → LayerStage
-behind_name x s = record s { joined = with_trace s.joined (name_trace x) }
+behind_name x s = record s { joined = joined_with s.joined (name_trace x) }
 
 -- the name is done, and so is the tree
 pub record SettingDone (held : Holder) (k c : ℕ) (x : Name) (t : WideTree) (s s1 : LayerStage) : Type 0 where

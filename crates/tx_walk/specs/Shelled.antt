@@ -19,7 +19,7 @@ look_before looks trace =
     record trace { looks = atop looks trace.looks; cost = 1 + trace.cost; height = 1 + trace.height }
 
 -- one step and one level more can be counted
-pub record IsCounted (trace : WideTrace) : Type 0 where
+pub record IsCountedTrace (trace : WideTrace) : Type 0 where
   pub cost : trace.cost < 1000000
   pub height : trace.height < 400
 

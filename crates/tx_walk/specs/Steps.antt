@@ -87,8 +87,8 @@ abbrev pub look_behind : NameMap → LookMap → Name → Option WideTree → Lo
 look_behind own looks x found = if is_some (get own x) then looks else noted looks x found
 
 -- with this trace behind the others
-abbrev pub with_trace : SoFar → WideTrace → SoFar
-with_trace a trace = record {
+abbrev pub joined_with : SoFar → WideTrace → SoFar
+joined_with a trace = record {
   values = a.values ++ trace.value ∷ [];
   looks = both_looks a.looks a.writes trace.looks;
   writes = atop trace.writes a.writes;
@@ -99,7 +99,7 @@ with_trace a trace = record {
 -- what was joined, where nothing more is where the trace is none
 abbrev pub IsJoined : SoFar → SoFar → Option WideTrace → Bool → Type 0
 IsJoined a b None went = went ≡ false
-IsJoined a b (Some trace) went = (went ≡ true) × (b ≡ with_trace a trace)
+IsJoined a b (Some trace) went = (went ≡ true) × (b ≡ joined_with a trace)
 
 -- the trace of the `document` at this origin
 abbrev pub document_at : List ℕ → SoFar → WideTrace
@@ -140,7 +140,7 @@ stage_of j env done count layers =
 pub record ChildDone (guide : Guide) (k c : ℕ) (path : List ℕ) (i : ℕ) (t : WideTree) (s s1 : Stage) : Type 0 where
   pub trace : WideTrace
   pub comes : evaluates k (c - s.joined.cost) t s.names ≡ Some trace
-  pub joined : s1.joined ≡ with_trace s.joined (trace_under (path ++ i ∷ []) trace)
+  pub joined : s1.joined ≡ joined_with s.joined (trace_under (path ++ i ∷ []) trace)
   pub names : s1.names ≡ env_atop trace.writes s.names
   pub done : s1.done ≡ s.done ++ map (seen_in guide.stores)
       (parts_by guide.sheller k (c - s.joined.cost) (path ++ i ∷ []) t s.names)

@@ -9,7 +9,7 @@ ghost use Rattle.tx_exec_form.specs.Maps.{noted};
 ghost use Rattle.tx_parts.specs.Atop.{atop, both_looks};
 ghost use Rattle.tx_parts.specs.Composed.{nothing_yet};
 ghost use Rattle.tx_exec.specs.Outcomes.{wide_trace, wide_outcome, NamesOnce};
-ghost use Rattle.tx_walk.specs.Steps.{so_far_of, with_trace, look_behind, IsJoined};
+ghost use Rattle.tx_walk.specs.Steps.{so_far_of, joined_with, look_behind, IsJoined};
 
 use std::alloc::Global;
 use std::mem;
@@ -96,7 +96,7 @@ impl Joined {
     pub(crate) fn add(&mut self, trace: Trace) -> Result<(), Memory>
         requires cost { self.old.cost + trace.cost ≤ 1000000 }
         requires once { IsDistinct bytes_eq (keys_of trace.writes) }
-        ensures { OnOk result (so_far_of self.new ≡ with_trace (so_far_of self.old) (wide_trace trace)) }
+        ensures { OnOk result (so_far_of self.new ≡ joined_with (so_far_of self.old) (wide_trace trace)) }
     {
         join_looks(&self.writes, &mut self.looks, &trace.looks)?;
         join_writes(&mut self.writes, &trace.writes)?;

@@ -11,7 +11,7 @@ ghost use Rattle.tx_walk.specs.Walked.{AreOnce};
 ghost use Rattle.tx_walk.specs.Prior.{holder_of};
 ghost use Rattle.tx_walk.specs.Shells.{wide_layer};
 ghost use Rattle.tx_walk.specs.Spending.{RisesAlike};
-ghost use Rattle.tx_walk.specs.Steps.{so_far_of, with_trace, IsJoined};
+ghost use Rattle.tx_walk.specs.Steps.{so_far_of, joined_with, IsJoined};
 ghost use Rattle.tx_walk.specs.Layers.{name_trace, name_outcome, set_sizes, pairs_of_settings, stage_in};
 ghost use Rattle.tx_walk.specs.Layers.{TreeComes, SettingComes, LayerComes};
 
@@ -86,7 +86,7 @@ impl LayerSoFar {
     fn add_done(&mut self, alloc: Global, setting: TreeSetting, env: &mut Env) -> Result<(), Memory>
         requires cost { self.old.joined.cost + setting.done.trace.cost ≤ 1000000 }
         ensures joined { OnOk result
-            (so_far_of self.new.joined ≡ with_trace (so_far_of self.old.joined) setting.done.trace) }
+            (so_far_of self.new.joined ≡ joined_with (so_far_of self.old.joined) setting.done.trace) }
         ensures settings { OnOk result (self.new.settings.items ≡ self.old.settings.items ++ setting ∷ []) }
         ensures names { OnOk result (before_of env.new ≡ env_atop setting.done.trace.writes (before_of env.old)) }
         ensures scopes { env.new.scopes ≡ env.old.scopes }

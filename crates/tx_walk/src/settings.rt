@@ -6,7 +6,7 @@ ghost use Rattle.tx_tree.specs.WideTree.{WideTree, leaf, children_of};
 ghost use Rattle.tx_origin.specs.Values.{text};
 ghost use Rattle.tx_parts.specs.Openness.{Settings as TextSettings, settings_in};
 ghost use Rattle.tx_parts.specs.Composed.{settings_cost};
-ghost use Rattle.tx_walk.specs.Descent.{AreSettings, Goes};
+ghost use Rattle.tx_walk.specs.Descent.{AreSettings, SettingsFit};
 
 use crate::origins::origin_of;
 use std::alloc::Global;
@@ -126,7 +126,7 @@ fn add_all(
     requires cost { settings.old.cost ≡ 0 }
     requires opens { (ps : TextSettings) × (b : WideTree) × (settings_in (children_of t.now) ≡ Some (ps, b)) }
     ensures { (ps : TextSettings) (b : WideTree) → settings_in (children_of t.now) ≡ Some (ps, b) →
-        IfOk result (λ went. Goes left base.now ps settings.new went) }
+        IfOk result (λ went. SettingsFit left base.now ps settings.new went) }
 {
     let _size = t.size();
     for i in 0..t.arity() / 2 {

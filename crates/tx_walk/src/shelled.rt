@@ -16,7 +16,7 @@ ghost use Rattle.tx_exec.specs.Outcomes.{wide_trace, wide_outcome, NamesOnce};
 ghost use Rattle.tx_walk.specs.Walked.{AreOnce};
 ghost use Rattle.tx_walk.specs.Shells.{wide_shell};
 ghost use Rattle.tx_walk.specs.Steps.{so_far_of};
-ghost use Rattle.tx_walk.specs.Shelled.{step_more, look_before, layer_by, FitsLayer, IsCounted, BehindLayer};
+ghost use Rattle.tx_walk.specs.Shelled.{step_more, look_before, layer_by, FitsLayer, IsCountedTrace, BehindLayer};
 
 use crate::joined::{Joined, join_looks, join_writes, note_look};
 use crate::outside::{looks_outside, writes_outside};
@@ -91,7 +91,7 @@ pub(crate) fn look_at_label(alloc: Global, t: &Tree, env: &Env) -> Result<Pairs,
 
 // The trace with this look before it, a step more, and a level more.
 fn tag_trace(alloc: Global, mut looks: Pairs, trace: Trace) -> Result<Trace, Memory>
-    requires counted { IsCounted (wide_trace trace) }
+    requires counted { IsCountedTrace (wide_trace trace) }
     requires once { AreOnce trace }
     ensures trace { IfOk result (λ w. wide_trace w ≡ look_before (from_entries looks) (wide_trace trace)) }
     ensures once { IfOk result AreOnce }
@@ -109,7 +109,7 @@ fn tag_trace(alloc: Global, mut looks: Pairs, trace: Trace) -> Result<Trace, Mem
 
 /// What a tag comes to that looks its label up so, where its child in its layers comes to this.
 pub(crate) fn tag_of(alloc: Global, looks: Pairs, inside: Outcome) -> Result<Outcome, Memory>
-    requires counted { IfSome (wide_outcome inside) IsCounted }
+    requires counted { IfSome (wide_outcome inside) IsCountedTrace }
     requires once { NamesOnce inside }
     ensures outcome { IfOk result
         (λ o. wide_outcome o ≡ option_map (look_before (from_entries looks)) (wide_outcome inside)) }
@@ -123,7 +123,7 @@ pub(crate) fn tag_of(alloc: Global, looks: Pairs, inside: Outcome) -> Result<Out
 
 /// The same with a step and a level more.
 pub(crate) fn stepped(outcome: Outcome) -> Outcome
-    requires counted { IfSome (wide_outcome outcome) IsCounted }
+    requires counted { IfSome (wide_outcome outcome) IsCountedTrace }
     requires once { NamesOnce outcome }
     ensures outcome { wide_outcome result ≡ option_map step_more (wide_outcome outcome) }
     ensures once { NamesOnce result }

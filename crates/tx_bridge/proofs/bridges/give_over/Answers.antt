@@ -1,7 +1,7 @@
 use Rattle.std.proofs.Common.{◌≡◌, ◌∙◌, ◌++◌, sym, ap, subst, take, drop, length, arith}
 use Rattle.std.proofs.lemmas.Grind.{common_steps}
 use Rattle.tx_bridge.specs.Courses.{with_arrived}
-use Rattle.tx_bridge.specs.Slots.{AreApart, AllPlaced}
+use Rattle.tx_bridge.specs.Slots.{HaveOwnPaths, AllPlaced}
 use Rattle.tx_bridge.proofs.Arrived.{sound_placed}
 use Rattle.tx_bridge.proofs.Received.{coming_apart, coming_placed, moved_as, as_many, as_given}
 use Rattle.tx_bridge.proofs.bridges.give_over.Goals as goal
@@ -11,7 +11,7 @@ give_all-requires-clause-apart c =
     let whole : take c.in_ok-new.new.len
     (c.put_moves.new.new ++ drop (length c.put_moves.new.new) c.in_ok-new.new.items)
     ≡ c.put_moves.new.new = grind (arith, common_steps) in
-    subst AreApart
+    subst HaveOwnPaths
     (sym (c.deref_mut-2.ensures.value ∙ whole ∙ c.in_ok-put_moves.ensures.units
     ∙ ap (with_arrived c.args.course.moves.items 0) (c.deref_mut.ensures.value ∙ c.in_ok-new.ensures)))
     (coming_apart c.args.course.moves.items c.args.units.items c.requires.units.apart)

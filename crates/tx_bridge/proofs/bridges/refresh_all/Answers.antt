@@ -4,7 +4,7 @@ use Rattle.std.specs.Prelude.{IfSome, slice_get, option_copied}
 use Rattle.tx_parts.specs.Opening.{shells_by}
 use Rattle.tx_bridge.specs.declared.bridge.Bridge.{Bridge}
 use Rattle.tx_bridge.specs.HeldParts.{kept_parts}
-use Rattle.tx_bridge.specs.Sound.{IsSound, entry_of}
+use Rattle.tx_bridge.specs.Sound.{IsSoundBridge, kept_unit}
 use Rattle.tx_bridge.specs.Spares.{first_spare}
 use Rattle.tx_bridge.specs.Lent.{spares_in, IsSpareOf}
 use Rattle.tx_bridge.proofs.Lending.{charged, first_lent, lent_here}
@@ -46,7 +46,8 @@ loop-i-preserved g c =
       parts = c.in_ok-charge.ensures.parts;
     })
     c.in_ok-charge.ensures.flags c.in_ok-charge.ensures.renewed c.in_ok-charge.ensures.behind
-    (charged (shells_by (g.O.Opener.opens c.args.opener.now)) c.loop-i.moment (entry_of b) (kept_parts b.parts) b.layers
+    (charged (shells_by (g.O.Opener.opens c.args.opener.now)) c.loop-i.moment (kept_unit b) (kept_parts b.parts)
+    b.layers
     (option_copied c.lent_at-other.result)
     (slice_get c.args.spare.now c.loop-i.i) (first_spare (drop c.loop-i.i (spares_in c.args.spare.now)))
     c.in_ok-charge.charge c.in_ok-charge.ensures.charge c.lent_at-other.ensures
@@ -58,7 +59,7 @@ loop-i-preserved g c =
 
 pub returns-in_err-charge-clause-sound : goal.returns-in_err-charge-clause-sound
 returns-in_err-charge-clause-sound g c =
-    All-set IsSound c.loop-i.bridges c.loop-i.i c.refresh.new.self c.in_err-charge.ensures.sound
+    All-set IsSoundBridge c.loop-i.bridges c.loop-i.i c.refresh.new.self c.in_err-charge.ensures.sound
     c.loop-i.invariant.sound
 
 pub returns-in_err-charge-clause-units : goal.returns-in_err-charge-clause-units

@@ -1,6 +1,6 @@
 use Rattle.std.proofs.Common.{arith, map, subst, sym}
 use Rattle.tx_bridge.specs.PartMoves.{seen_move}
-use Rattle.tx_bridge.specs.Sound.{IsSound}
+use Rattle.tx_bridge.specs.Sound.{IsSoundBridge}
 use Rattle.tx_bridge.proofs.Gathering.{units_next, unit_stands, place_here}
 use Rattle.tx_bridge.proofs.course.moves_of.Goals as goal
 
@@ -17,7 +17,7 @@ add_unit_moves-requires-clause-passage c = (
 
 pub add_unit_moves-requires-clause-sound : goal.add_unit_moves-requires-clause-sound
 add_unit_moves-requires-clause-sound c =
-    subst IsSound (sym c.index-bridges-i.is) (c.requires.sound c.loop-i.i c.index-bridges-i.result (omega arith))
+    subst IsSoundBridge (sym c.index-bridges-i.is) (c.requires.sound c.loop-i.i c.index-bridges-i.result (omega arith))
 
 pub loop-i-preserved : goal.loop-i-preserved
 loop-i-preserved c = (

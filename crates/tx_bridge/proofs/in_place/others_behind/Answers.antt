@@ -8,7 +8,7 @@ use Rattle.tx_walk.specs.Walked.{IsTidy}
 use Rattle.tx_walk.proofs.Settled.{both_ok}
 use Rattle.tx_bridge.specs.HeldParts.{kept_parts}
 use Rattle.tx_bridge.specs.MovedParts.{AreMovedParts}
-use Rattle.tx_bridge.specs.Others.{path_of_part, kept_of, kept_others}
+use Rattle.tx_bridge.specs.Others.{path_of_part, stored_of, kept_others}
 use Rattle.tx_bridge.proofs.OtherParts.{moved_are, none_moved, others_lead}
 use Rattle.tx_bridge.proofs.in_place.others_behind.Goals as goal
 
@@ -27,7 +27,7 @@ places_left-requires-clause-lead g c =
 pub returns-clause-moved : goal.returns-clause-moved
 returns-clause-moved g c =
     both_ok c.others_at.result
-    (λ os. kept_of os.items
+    (λ os. stored_of os.items
     ≡ kept_others c.args.path.now c.args.parts.now c.deref-3.result.now c.deref-2.result.now)
     (λ os. All (λ o. IfSome o.1 IsTidy) os.items)
     (λ os. (u : DocUnit) → u.path ≡ Some c.args.path.now

@@ -1,6 +1,6 @@
 use Rattle.std.proofs.Common.{[], ◌∙◌, map}
 use Rattle.tx_exec_form.specs.declared.TheConstants.{MOST_LEVELS}
-use Rattle.tx_parts.specs.Parts.{stored, parts}
+use Rattle.tx_parts.specs.Parts.{stored_part, parts}
 use Rattle.tx_part_layout.proofs.SoFar.{nothing_right}
 use Rattle.tx_part_layout.proofs.Wholes.{whole_laid, whole_items, shows_value, shown_by}
 use Rattle.tx_part_layout.proofs.unit.lay_parts.Goals as goal
@@ -64,6 +64,6 @@ returns-clause-shown g c = λ steps e trace comes same.
     let a = c.args.attrs.now in
     let t = c.args.tree.now in
     shows_value c.args.width a trace.value c.args.parts.now t c.end_unit.new.laying (returns-clause-laid g c)
-    (shown_by a trace.value c.args.parts.now (map stored (parts MOST_LEVELS steps [] t e)) t
+    (shown_by a trace.value c.args.parts.now (map stored_part (parts MOST_LEVELS steps [] t e)) t
     (law.each MOST_LEVELS steps t e trace a comes) (law.paragraphs MOST_LEVELS steps t e trace a comes)
     (law.errors MOST_LEVELS steps t e trace a comes) same)

@@ -11,7 +11,7 @@ use Rattle.tx_units.specs.Units.{units}
 use Rattle.tx_walk.specs.declared.part.Part.{Part as DonePart}
 use Rattle.tx_bridge.specs.Entries.{units_of}
 use Rattle.tx_bridge.specs.MovedParts.{moves_of}
-use Rattle.tx_bridge.specs.Names.{Carry, CarryStrays, PartMoves, Sources}
+use Rattle.tx_bridge.specs.Names.{CarryTraces, CarryStrays, PartMoves, Sources}
 use Rattle.tx_bridge.specs.PartsKept.{KeptParts}
 use Rattle.tx_bridge.specs.Strays.{StandAside, is_beside, kept_strays, path_at}
 use Rattle.tx_unit_layout.specs.declared.shown.Shown.{Shown}
@@ -187,7 +187,7 @@ returns-in_ok-parts-in-Some-clause-way g c =
 pub returns-in_ok-carried_anew-in-None-clause-kept : goal.returns-in_ok-carried_anew-in-None-clause-kept
 returns-in_ok-carried_anew-in-None-clause-kept g c =
     c.in_ok-carried_anew-in-None.ensures.carried
-    ∙ ap (λ t. Carry c.args.buffer c.args.mods.now t c.args.bridges.now.kept (units c.args.after.now))
+    ∙ ap (λ t. CarryTraces c.args.buffer c.args.mods.now t c.args.bridges.now.kept (units c.args.after.now))
     (sym (tree_at c.args.buffers.now c.args.buffer c.index-buffers-buffer.result c.requires.within))
 
 pub returns-in_ok-carried_anew-in-None-clause-sources : goal.returns-in_ok-carried_anew-in-None-clause-sources

@@ -1,7 +1,7 @@
 use Rattle.std.proofs.Common.{◌≡◌, ◌∙◌, ap, sym, subst, length}
 use Rattle.tx_view_form.specs.Outcomes.{beginning}
 use Rattle.tx_view.specs.Laid.{without_parts}
-use Rattle.tx_bridge.specs.Names.{Fresh, FreshParts, PartFlags}
+use Rattle.tx_bridge.specs.Names.{FreshTraces, FreshParts, PartFlags}
 use Rattle.tx_view.proofs.Partly.{dropped_all, left_laid}
 use Rattle.tx_view.proofs.Forgetting.{AllReadable, readable_without, readable_dropped, all_stay}
 use Rattle.tx_view.proofs.Keeping.{behind_evaluation, behind_refusal}
@@ -51,7 +51,7 @@ returns-in-Ok-clause-left g c =
     c.requires.as_many c.in-Ok.ensures.units many c.in-Ok.ensures.stays c.forget_renewed-alone.ensures.shown
 
 pub returns-in-Err-clause-refused : goal.returns-in-Err-clause-refused
-unfolding Fresh FreshParts
+unfolding FreshTraces FreshParts
 returns-in-Err-clause-refused g c =
     let r = c.in-Err.ensures.refused in
     dropped_all c.args.bridges.now c.refresh.new.self c.args.units.now c.forget_all.new.units r.0 c.requires.as_many

@@ -9,7 +9,7 @@ use Rattle.tx_walk.specs.Walked.{paths_of}
 use Rattle.tx_bridge.specs.declared.moments.Evaluated.{Evaluated}
 use Rattle.tx_bridge.specs.HeldParts.{PartsHold, kept_parts, flags_of_parts}
 use Rattle.tx_bridge.specs.PartsKept.{fresh_parts_by, part_flags_by}
-use Rattle.tx_bridge.specs.Charges.{parts_charge_by, LayersKnown}
+use Rattle.tx_bridge.specs.Charges.{parts_charge_by, UnitLayersKnown}
 use Rattle.tx_bridge.specs.Lent.{spare_of}
 use Rattle.tx_bridge.proofs.PartsSame.{bare_parts, bare_fresh}
 use Rattle.tx_bridge.proofs.Marked.{bare_flags}
@@ -50,7 +50,8 @@ returns-clause-charge g c =
 pub returns-clause-layers : goal.returns-clause-layers
 returns-clause-layers g c =
     IfOk-weaker c.evaluated_whole.result (λ e. e.parts ≡ [])
-    (λ e. LayersKnown (shells_by (g.O.Opener.opens c.args.opener.now)) c.args.moment.now c.args.self.now.unit e.layers)
+    (λ e. UnitLayersKnown (shells_by (g.O.Opener.opens c.args.opener.now)) c.args.moment.now c.args.self.now.unit
+    e.layers)
     (λ (e : Evaluated) none. bare_known (shells_by (g.O.Opener.opens c.args.opener.now)) c.args.moment.now
     c.args.self.now.unit e.layers (sym c.has_parts.ensures ∙ c.if-has_parts.false))
     c.evaluated_whole.ensures.parts

@@ -18,14 +18,14 @@ pub returns-then-keeps_parts-clause-fresh : goal.returns-then-keeps_parts-clause
 returns-then-keeps_parts-clause-fresh g c =
     ap (λ (b : Bridge). wide_outcome b.kept) c.leave.ensures
     ∙ fits_is c.args.moment.now (wide_outcome c.args.self.now.kept) (tagged_of c.args.self.now.unit.tagged)
-    c.requires.sound.holds (sym c.fits-used.ensures ∙ c.if-used.true)
+    c.requires.sound.holds (sym c.can_be_used-used.ensures ∙ c.if-used.true)
 
 pub returns-then-keeps_parts-clause-behind : goal.returns-then-keeps_parts-clause-behind
 returns-then-keeps_parts-clause-behind g c =
     c.in_ok-go_behind.ensures.behind
     ∙ ap (behind c.args.moment.now)
     (fits_is c.args.moment.now (wide_outcome c.args.self.now.kept) (tagged_of c.args.self.now.unit.tagged)
-    c.requires.sound.holds (sym c.fits-used.ensures ∙ c.if-used.true))
+    c.requires.sound.holds (sym c.can_be_used-used.ensures ∙ c.if-used.true))
 
 pub returns-then-keeps_parts-clause-parts : goal.returns-then-keeps_parts-clause-parts
 returns-then-keeps_parts-clause-parts g c =
@@ -34,7 +34,7 @@ returns-then-keeps_parts-clause-parts g c =
     ∙ left_parts c.args.moment.now c.args.self.now c.requires.sound
     (shells_by (g.O.Opener.opens c.args.opener.now)) c.args.shelled
     (λ off. ap shells_by (c.requires.shut off) ∙ c.opener_law.ensures.nothing_opened)
-    (sym c.fits-used.ensures ∙ c.if-used.true)
+    (sym c.can_be_used-used.ensures ∙ c.if-used.true)
     (off_is (has_parts c.args.self.now.unit && (c.args.shelled || c.args.self.now.shelled))
     (sym c.keeps_parts.ensures ∙ c.if-keeps_parts.true))
 
@@ -43,7 +43,7 @@ returns-then-keeps_parts-clause-flags g c =
     left_flags_by c.args.moment.now c.args.self.now c.requires.sound
     (shells_by (g.O.Opener.opens c.args.opener.now)) c.args.shelled
     (λ off. ap shells_by (c.requires.shut off) ∙ c.opener_law.ensures.nothing_opened)
-    (sym c.fits-used.ensures ∙ c.if-used.true)
+    (sym c.can_be_used-used.ensures ∙ c.if-used.true)
     (off_is (has_parts c.args.self.now.unit && (c.args.shelled || c.args.self.now.shelled))
     (sym c.keeps_parts.ensures ∙ c.if-keeps_parts.true))
     c.trace_laws.ensures.agrees c.leave.new.self.parts (ap (λ (b : Bridge). b.parts) c.leave.ensures)
@@ -54,7 +54,7 @@ returns-then-keeps_parts-clause-renewed g c =
     ∙ left_renewed c.args.moment.now c.args.self.now c.requires.sound
     (shells_by (g.O.Opener.opens c.args.opener.now)) c.args.shelled
     (λ off. ap shells_by (c.requires.shut off) ∙ c.opener_law.ensures.nothing_opened)
-    (sym c.fits-used.ensures ∙ c.if-used.true)
+    (sym c.can_be_used-used.ensures ∙ c.if-used.true)
     (off_is (has_parts c.args.self.now.unit && (c.args.shelled || c.args.self.now.shelled))
     (sym c.keeps_parts.ensures ∙ c.if-keeps_parts.true))
     c.trace_laws.ensures.agrees c.opened_fitting_law.ensures.all_traced c.opener_law.ensures.closed
@@ -64,7 +64,7 @@ returns-then-keeps_parts-clause-charge g c =
     left_charge c.args.moment.now c.args.self.now c.requires.sound
     (shells_by (g.O.Opener.opens c.args.opener.now)) c.args.shelled
     (λ off. ap shells_by (c.requires.shut off) ∙ c.opener_law.ensures.nothing_opened)
-    (sym c.fits-used.ensures ∙ c.if-used.true)
+    (sym c.can_be_used-used.ensures ∙ c.if-used.true)
     (off_is (has_parts c.args.self.now.unit && (c.args.shelled || c.args.self.now.shelled))
     (sym c.keeps_parts.ensures ∙ c.if-keeps_parts.true))
     c.trace_laws.ensures.agrees c.opened_fitting_law.ensures.all_traced c.opener_law.ensures.closed
@@ -76,7 +76,7 @@ returns-then-keeps_parts-clause-layers g c =
     left_known c.args.moment.now c.args.self.now c.requires.sound
     (shells_by (g.O.Opener.opens c.args.opener.now)) c.args.shelled
     (λ off. ap shells_by (c.requires.shut off) ∙ c.opener_law.ensures.nothing_opened)
-    (sym c.fits-used.ensures ∙ c.if-used.true)
+    (sym c.can_be_used-used.ensures ∙ c.if-used.true)
     (off_is (has_parts c.args.self.now.unit && (c.args.shelled || c.args.self.now.shelled))
     (sym c.keeps_parts.ensures ∙ c.if-keeps_parts.true))
     c.opened_cost_law.ensures.nothing c.leave.new.self.layers

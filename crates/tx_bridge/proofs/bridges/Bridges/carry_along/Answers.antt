@@ -1,6 +1,6 @@
 use Rattle.std.proofs.Common.{ap, subst, sym}
 use Rattle.tx_bridge.specs.Carrying.{mods_of}
-use Rattle.tx_bridge.specs.Names.{Carry, Sources}
+use Rattle.tx_bridge.specs.Names.{CarryTraces, Sources}
 use Rattle.tx_bridge.specs.UnitLists.{AreUnits}
 use Rattle.tx_bridge.proofs.Received.{coming, coming_bare, course_places, received_sound, received_parts}
 use Rattle.tx_bridge.proofs.Received.{received_strays, received_tidy, received_kept, received_stand}
@@ -20,7 +20,7 @@ give_over-requires-clause-places c = (
 )
 
 pub returns-clause-carried : goal.returns-clause-carried
-unfolding Carry
+unfolding CarryTraces
 returns-clause-carried c =
     (given_to_is c.args.buffer c.args.mods.now c.args.before.now c.args.self.now.kept c.args.units.items
     c.self.inside.bridges.items (coming c.args.course.moves.items c.args.units.items) c.give_over.new.bridges.items

@@ -3,9 +3,9 @@ use Rattle.std.proofs.lemmas.Grind.{common_steps}
 use Rattle.std.specs.Prelude.{slice_get}
 use Rattle.tx_units.specs.Units.{units_with}
 use Rattle.tx_bridge.specs.Entries.{units_of}
-use Rattle.tx_bridge.specs.Names.{Carry, CarryWithin, Sources, StraysBeside}
-use Rattle.tx_bridge.specs.Others.{put_from, parts_of}
-use Rattle.tx_bridge.specs.Sound.{entries_of, parts_in, layers_in}
+use Rattle.tx_bridge.specs.Names.{CarryTraces, CarryWithin, Sources, StraysBeside}
+use Rattle.tx_bridge.specs.Others.{put_from, done_parts_of}
+use Rattle.tx_bridge.specs.Sound.{entries_of, stored_parts_in, layers_in}
 use Rattle.tx_bridge.specs.Strays.{AreStrays, AreTidy, StandAside, is_beside, strays_in}
 use Rattle.tx_bridge.proofs.Aside.{strays_seen, are_beside, beside_seen, tidy_beside, stay_beside, stand_beside}
 use Rattle.tx_bridge.proofs.Changing.{in_place, is_within, changed_right, layers_changed}
@@ -27,7 +27,7 @@ invariant_of-self c =
     let now = whole ∙ now_is c.args.changed c.args.tree c.args.moved.items c.self.inside.bridges.items _
     c.change_one-silent.new.bridges c.deref_mut.ensures.value c.change_one-silent.ensures.changed in
     changed_right c.args.changed c.args.tree
-    (put_from 0 c.args.moved.items (parts_of c.args.changed c.self.inside.bridges.items))
+    (put_from 0 c.args.moved.items (done_parts_of c.args.changed c.self.inside.bridges.items))
     c.self.inside.bridges.items _ c.self.inside.settled c.if-self.self c.self.inside.strays.items
     c.keep_beside.new.strays.items now
     (moved_hold c.args.changed c.args.mods.now c.args.before.now c.args.moved.items c.self.inside.bridges.items
@@ -73,7 +73,7 @@ returns-clause-stand c = λ u made.
     (ap (λ b. b.kept) c.self.view_is) (ap (λ b. b.strays) c.self.view_is) c.self.invariant.strays).outside)
 
 pub returns-clause-carried : goal.returns-clause-carried
-unfolding Carry
+unfolding CarryTraces
 returns-clause-carried c =
     let whole : take c.self.inside.bridges.len (c.change_one-silent.new.bridges
     ++ drop (length c.change_one-silent.new.bridges) c.self.inside.bridges.items) ≡ c.change_one-silent.new.bridges =
@@ -81,7 +81,7 @@ returns-clause-carried c =
     let now = whole ∙ now_is c.args.changed c.args.tree c.args.moved.items c.self.inside.bridges.items _
     c.change_one-silent.new.bridges c.deref_mut.ensures.value c.change_one-silent.ensures.changed in
     (in_place c.args.changed c.args.mods.now c.args.before.now c.args.tree
-    (put_from 0 c.args.moved.items (parts_of c.args.changed c.self.inside.bridges.items))
+    (put_from 0 c.args.moved.items (done_parts_of c.args.changed c.self.inside.bridges.items))
     c.self.inside.bridges.items c.requires.applies c.self.invariant.sound c.args.self.now.kept _
     (ap (λ b. b.kept) c.self.view_is) c.requires.units c.requires.changed now).entries
 
@@ -93,7 +93,7 @@ returns-clause-parts c =
     grind (arith, common_steps) in
     let now = whole ∙ now_is c.args.changed c.args.tree c.args.moved.items c.self.inside.bridges.items _
     c.change_one-silent.new.bridges c.deref_mut.ensures.value c.change_one-silent.ensures.changed in
-    ap parts_in now
+    ap stored_parts_in now
     ∙ parts_moved c.args.changed c.args.mods.now c.args.before.now c.args.moved.items c.self.inside.bridges.items
     c.args.self.now.kept c.args.self.now.parts (ap (λ b. b.kept) c.self.view_is) (ap (λ b. b.parts) c.self.view_is)
     c.requires.moved c.args.tree
@@ -107,7 +107,8 @@ returns-clause-layers c =
     c.change_one-silent.new.bridges c.deref_mut.ensures.value c.change_one-silent.ensures.changed in
     ap layers_in now
     ∙ layers_changed c.args.changed c.args.tree
-    (put_from 0 c.args.moved.items (parts_of c.args.changed c.self.inside.bridges.items)) c.self.inside.bridges.items
+    (put_from 0 c.args.moved.items (done_parts_of c.args.changed c.self.inside.bridges.items))
+    c.self.inside.bridges.items
     ∙ ap (λ b. b.layers) c.self.view_is
 
 pub returns-clause-sources : goal.returns-clause-sources
@@ -119,7 +120,7 @@ returns-clause-sources c =
     let now = whole ∙ now_is c.args.changed c.args.tree c.args.moved.items c.self.inside.bridges.items _
     c.change_one-silent.new.bridges c.deref_mut.ensures.value c.change_one-silent.ensures.changed in
     (in_place c.args.changed c.args.mods.now c.args.before.now c.args.tree
-    (put_from 0 c.args.moved.items (parts_of c.args.changed c.self.inside.bridges.items))
+    (put_from 0 c.args.moved.items (done_parts_of c.args.changed c.self.inside.bridges.items))
     c.self.inside.bridges.items c.requires.applies c.self.invariant.sound c.args.self.now.kept _
     (ap (λ b. b.kept) c.self.view_is) c.requires.units c.requires.changed now).sources
 
@@ -131,7 +132,7 @@ returns-clause-once c =
     let now = whole ∙ now_is c.args.changed c.args.tree c.args.moved.items c.self.inside.bridges.items _
     c.change_one-silent.new.bridges c.deref_mut.ensures.value c.change_one-silent.ensures.changed in
     (in_place c.args.changed c.args.mods.now c.args.before.now c.args.tree
-    (put_from 0 c.args.moved.items (parts_of c.args.changed c.self.inside.bridges.items))
+    (put_from 0 c.args.moved.items (done_parts_of c.args.changed c.self.inside.bridges.items))
     c.self.inside.bridges.items c.requires.applies c.self.invariant.sound c.args.self.now.kept _
     (ap (λ b. b.kept) c.self.view_is) c.requires.units c.requires.changed now).once
 
@@ -143,7 +144,7 @@ returns-clause-numbers c =
     let now = whole ∙ now_is c.args.changed c.args.tree c.args.moved.items c.self.inside.bridges.items _
     c.change_one-silent.new.bridges c.deref_mut.ensures.value c.change_one-silent.ensures.changed in
     (in_place c.args.changed c.args.mods.now c.args.before.now c.args.tree
-    (put_from 0 c.args.moved.items (parts_of c.args.changed c.self.inside.bridges.items))
+    (put_from 0 c.args.moved.items (done_parts_of c.args.changed c.self.inside.bridges.items))
     c.self.inside.bridges.items c.requires.applies c.self.invariant.sound c.args.self.now.kept _
     (ap (λ b. b.kept) c.self.view_is) c.requires.units c.requires.changed now).numbers
 
@@ -155,6 +156,6 @@ returns-clause-units c =
     let now = whole ∙ now_is c.args.changed c.args.tree c.args.moved.items c.self.inside.bridges.items _
     c.change_one-silent.new.bridges c.deref_mut.ensures.value c.change_one-silent.ensures.changed in
     (in_place c.args.changed c.args.mods.now c.args.before.now c.args.tree
-    (put_from 0 c.args.moved.items (parts_of c.args.changed c.self.inside.bridges.items))
+    (put_from 0 c.args.moved.items (done_parts_of c.args.changed c.self.inside.bridges.items))
     c.self.inside.bridges.items c.requires.applies c.self.invariant.sound c.args.self.now.kept _
     (ap (λ b. b.kept) c.self.view_is) c.requires.units c.requires.changed now).units

@@ -2,7 +2,7 @@ use Rattle.std.proofs.Common.{◌∙◌, sym, ap, refl, map, length, ltb-true}
 use Rattle.std.proofs.lemmas.Option.{slice_get_read}
 use Rattle.std.specs.Option.{option_map}
 use Rattle.tx_bridge.specs.Entries.{Entry}
-use Rattle.tx_bridge.specs.Sound.{entry_of}
+use Rattle.tx_bridge.specs.Sound.{kept_unit}
 use Rattle.tx_bridge.proofs.Arrived.{hold_all, parts_hold_all, entry_at}
 use Rattle.tx_bridge.proofs.bridges.Bridges.outcome.Goals as goal
 
@@ -14,7 +14,7 @@ pub returns-in-Some-clause-found : goal.returns-in-Some-clause-found
 returns-in-Some-clause-found c =
     ap (option_map (λ (e : Entry). e.trace))
     (entry_at c.deref.result.now c.args.self.now.kept c.args.i c.in-Some.bridge.now
-    (ap (λ bs. map entry_of bs) c.deref.ensures.value ∙ ap (λ b. b.kept) c.self.view_is)
+    (ap (λ bs. map kept_unit bs) c.deref.ensures.value ∙ ap (λ b. b.kept) c.self.view_is)
     (slice_get_read c.deref.result.now (length c.deref.result.now) c.args.i c.in-Some.bridge.now refl
     (ltb-true c.args.i (length c.deref.result.now) (sym c.in-Some.ensures.lookup.0)) c.in-Some.ensures.lookup.1))
 

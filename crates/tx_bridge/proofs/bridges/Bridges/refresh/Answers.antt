@@ -3,15 +3,15 @@ use Rattle.std.specs.Prelude.{IfOk, OnOk, OnErr}
 use Rattle.tx_view_form.specs.Outcomes.{beginning}
 use Rattle.tx_bridge.specs.Moments.{beginning_with}
 use Rattle.tx_bridge.specs.Reached.{reached_from}
-use Rattle.tx_bridge.specs.Names.{Fresh, FreshParts, PartFlags, Charge}
-use Rattle.tx_bridge.specs.Names.{FreshFrom, FreshPartsFrom, PartFlagsFrom, ChargeFrom}
+use Rattle.tx_bridge.specs.Names.{FreshTraces, FreshParts, PartFlags, Charge}
+use Rattle.tx_bridge.specs.Names.{FreshTracesFrom, FreshPartsFrom, PartFlagsFrom, ChargeFrom}
 use Rattle.tx_bridge.proofs.Spared.{nothing_charged}
 use Rattle.tx_bridge.proofs.bridges.Bridges.refresh.Goals as goal
 
 pub returns-clause-fresh : goal.returns-clause-fresh
-unfolding Fresh FreshFrom
+unfolding FreshTraces FreshTracesFrom
 returns-clause-fresh g c =
-    subst (λ ps. OnOk c.refresh_from.result (c.refresh_from.new.self.kept ≡ FreshFrom ps c.args.self.now.kept))
+    subst (λ ps. OnOk c.refresh_from.result (c.refresh_from.new.self.kept ≡ FreshTracesFrom ps c.args.self.now.kept))
     (c.new-none.ensures ∙ c.new.ensures.items) c.refresh_from.ensures.fresh
 
 pub returns-clause-parts : goal.returns-clause-parts
@@ -43,10 +43,10 @@ returns-clause-charge g c =
     c.refresh_from.ensures.charge
 
 pub returns-clause-refused : goal.returns-clause-refused
-unfolding Fresh FreshFrom FreshParts FreshPartsFrom
+unfolding FreshTraces FreshTracesFrom FreshParts FreshPartsFrom
 returns-clause-refused g c =
     subst (λ ps. OnErr c.refresh_from.result ((n : ℕ) × (c.refresh_from.new.self.kept
-    ≡ take n (FreshFrom ps c.args.self.now.kept) ++ drop n c.args.self.now.kept)
+    ≡ take n (FreshTracesFrom ps c.args.self.now.kept) ++ drop n c.args.self.now.kept)
     × (c.refresh_from.new.self.parts
     ≡ take n (FreshPartsFrom ps c.args.self.now.kept) ++ drop n c.args.self.now.parts)))
     (c.new-none.ensures ∙ c.new.ensures.items) c.refresh_from.ensures.refused

@@ -5,7 +5,7 @@ use Rattle.std.specs.List.{All}
 use Rattle.tx_bridge.specs.Bridged.{Bridged}
 use Rattle.tx_bridge.specs.Moments.{beginning_with}
 use Rattle.tx_parts.specs.Opening.{shells_by}
-use Rattle.tx_bridge.specs.Names.{FreshFrom, FreshPartsBy, PartFlagsBy, ChargeBy, KnowsLayers}
+use Rattle.tx_bridge.specs.Names.{FreshTracesFrom, FreshPartsBy, PartFlagsBy, ChargeBy, KnowsLayers}
 use Rattle.tx_bridge.specs.Charges.{charges_by, AllLayersKnown}
 use Rattle.tx_bridge.specs.Reached.{reached_by_from}
 use Rattle.tx_bridge.specs.Lent.{spares_in}
@@ -13,7 +13,8 @@ use Rattle.tx_bridge.specs.Entries.{units_of}
 use Rattle.tx_bridge.specs.UnitLists.{AreUnits}
 use Rattle.tx_bridge.specs.PartsKept.{part_flags_by_from}
 use Rattle.tx_bridge.specs.HeldParts.{kept_parts}
-use Rattle.tx_bridge.specs.Sound.{IsSound, entry_of, entries_of, parts_in, part_flags_in, layers_in, flags_of}
+use Rattle.tx_bridge.specs.Sound.{IsSoundBridge, kept_unit, entries_of, stored_parts_in, part_flags_in, layers_in}
+use Rattle.tx_bridge.specs.Sound.{flags_of}
 use Rattle.tx_bridge.specs.Strays.{AreStrays, strays_in}
 use Rattle.tx_bridge.proofs.Aside.{none_aside, none_tidy}
 use Rattle.tx_bridge.proofs.Lending.{have_units}
@@ -37,7 +38,7 @@ invariant_of-self g c =
     ++ drop (length c.refresh_all.new.bridges) c.self.inside.bridges.items) ≡ c.refresh_all.new.bridges =
     grind (arith, common_steps) in
     record {
-      sound = subst (All IsSound) (sym whole) c.refresh_all.ensures.sound;
+      sound = subst (All IsSoundBridge) (sym whole) c.refresh_all.ensures.sound;
       units =
           subst AreUnits
           (sym (ap (λ bs. units_of (entries_of bs)) whole ∙ c.refresh_all.ensures.units
@@ -51,7 +52,7 @@ invariant_of-self g c =
     }
 
 pub returns-in_err-charges-clause-refused : goal.returns-in_err-charges-clause-refused
-unfolding FreshFrom FreshPartsBy
+unfolding FreshTracesFrom FreshPartsBy
 returns-in_err-charges-clause-refused g c =
     let whole : take c.self.inside.bridges.len (c.refresh_all.new.bridges
     ++ drop (length c.refresh_all.new.bridges) c.self.inside.bridges.items) ≡ c.refresh_all.new.bridges =
@@ -61,7 +62,7 @@ returns-in_err-charges-clause-refused g c =
     c.in_ok-moment.moment (beginning_with c.args.start.now) c.deref_mut.result.now c.refresh_all.new.bridges _
     c.args.self.now.kept c.args.self.now.parts c.args.self.now.layers c.in_ok-moment.ensures whole
     (ap entries_of c.deref_mut.ensures.value ∙ ap (λ b. b.kept) c.self.view_is)
-    (ap parts_in c.deref_mut.ensures.value ∙ ap (λ b. b.parts) c.self.view_is)
+    (ap stored_parts_in c.deref_mut.ensures.value ∙ ap (λ b. b.parts) c.self.view_is)
     (ap layers_in c.deref_mut.ensures.value ∙ ap (λ b. b.layers) c.self.view_is) c.in_err-charges.ensures.refused)
 
 pub returns-in_err-charges-clause-stays : goal.returns-in_err-charges-clause-stays
@@ -69,7 +70,7 @@ returns-in_err-charges-clause-stays g c =
     let whole : take c.self.inside.bridges.len (c.refresh_all.new.bridges
     ++ drop (length c.refresh_all.new.bridges) c.self.inside.bridges.items) ≡ c.refresh_all.new.bridges =
     grind (arith, common_steps) in
-    stays_whole entry_of c.refresh_all.new.bridges _ c.deref_mut.result.now c.args.self.now.kept whole
+    stays_whole kept_unit c.refresh_all.new.bridges _ c.deref_mut.result.now c.args.self.now.kept whole
     (ap entries_of c.deref_mut.ensures.value ∙ ap (λ b. b.kept) c.self.view_is) c.in_err-charges.ensures.stays
 
 pub invariant_of-self-2 : goal.invariant_of-self-2
@@ -78,7 +79,7 @@ invariant_of-self-2 g c =
     ++ drop (length c.refresh_all.new.bridges) c.self.inside.bridges.items) ≡ c.refresh_all.new.bridges =
     grind (arith, common_steps) in
     record {
-      sound = subst (All IsSound) (sym whole) c.in_ok-charges.ensures.sound;
+      sound = subst (All IsSoundBridge) (sym whole) c.in_ok-charges.ensures.sound;
       units =
           subst AreUnits
           (sym (ap (λ bs. units_of (entries_of bs)) whole ∙ c.in_ok-charges.ensures.units
@@ -101,14 +102,14 @@ returns-clause-parts_renewed g c =
     grind (arith, common_steps) in
     ap part_flags_in whole ∙ c.in_ok-charges.ensures.parts_renewed
     ∙ ap (λ m. part_flags_by_from (shells_by (g.O.Opener.opens c.args.opener.now)) m
-    (entries_of c.deref_mut.result.now) (parts_in c.deref_mut.result.now))
+    (entries_of c.deref_mut.result.now) (stored_parts_in c.deref_mut.result.now))
     c.in_ok-moment.ensures
     ∙ ap (λ es. part_flags_by_from (shells_by (g.O.Opener.opens c.args.opener.now))
-    (beginning_with c.args.start.now) es (parts_in c.deref_mut.result.now))
+    (beginning_with c.args.start.now) es (stored_parts_in c.deref_mut.result.now))
     (ap entries_of c.deref_mut.ensures.value ∙ ap (λ b. b.kept) c.self.view_is)
     ∙ ap (part_flags_by_from (shells_by (g.O.Opener.opens c.args.opener.now))
     (beginning_with c.args.start.now) c.args.self.now.kept)
-    (ap parts_in c.deref_mut.ensures.value ∙ ap (λ b. b.parts) c.self.view_is)
+    (ap stored_parts_in c.deref_mut.ensures.value ∙ ap (λ b. b.parts) c.self.view_is)
 
 pub returns-clause-parts_stay : goal.returns-clause-parts_stay
 returns-clause-parts_stay g c =
@@ -119,8 +120,8 @@ returns-clause-parts_stay g c =
     (shells_by (g.O.Opener.opens c.args.opener.now))
     (c.opener_law.ensures.sheller (g.O.Opener.opens c.args.opener.now) (g.met.O.Opener.sound c.args.opener.now))
     c.in_ok-moment.moment c.deref_mut.result.now c.refresh_all.new.bridges _ c.args.self.now.parts
-    (subst (All IsSound) (sym c.deref_mut.ensures.value) c.self.invariant.sound)
-    (ap parts_in c.deref_mut.ensures.value ∙ ap (λ b. b.parts) c.self.view_is)
+    (subst (All IsSoundBridge) (sym c.deref_mut.ensures.value) c.self.invariant.sound)
+    (ap stored_parts_in c.deref_mut.ensures.value ∙ ap (λ b. b.parts) c.self.view_is)
     c.in_ok-charges.ensures.parts c.in_ok-charges.ensures.parts_renewed whole
 
 pub returns-clause-parts_same : goal.returns-clause-parts_same
@@ -129,7 +130,7 @@ returns-clause-parts_same g c =
     ++ drop (length c.refresh_all.new.bridges) c.self.inside.bridges.items) ≡ c.refresh_all.new.bridges =
     grind (arith, common_steps) in
     stays_whole (λ b. kept_parts b.parts) c.refresh_all.new.bridges _ c.deref_mut.result.now c.args.self.now.parts
-    whole (ap parts_in c.deref_mut.ensures.value ∙ ap (λ b. b.parts) c.self.view_is)
+    whole (ap stored_parts_in c.deref_mut.ensures.value ∙ ap (λ b. b.parts) c.self.view_is)
     c.in_ok-charges.ensures.parts_same
 
 pub returns-clause-stays : goal.returns-clause-stays
@@ -137,7 +138,7 @@ returns-clause-stays g c =
     let whole : take c.self.inside.bridges.len (c.refresh_all.new.bridges
     ++ drop (length c.refresh_all.new.bridges) c.self.inside.bridges.items) ≡ c.refresh_all.new.bridges =
     grind (arith, common_steps) in
-    stays_whole entry_of c.refresh_all.new.bridges _ c.deref_mut.result.now c.args.self.now.kept whole
+    stays_whole kept_unit c.refresh_all.new.bridges _ c.deref_mut.result.now c.args.self.now.kept whole
     (ap entries_of c.deref_mut.ensures.value ∙ ap (λ b. b.kept) c.self.view_is) c.in_ok-charges.ensures.stays
 
 pub returns-clause-charge : goal.returns-clause-charge
@@ -145,16 +146,16 @@ unfolding ChargeBy
 returns-clause-charge g c =
     c.in_ok-charges.ensures.charge
     ∙ ap (λ m. charges_by (shells_by (g.O.Opener.opens c.args.opener.now)) m (entries_of c.deref_mut.result.now)
-    (parts_in c.deref_mut.result.now) (layers_in c.deref_mut.result.now)
+    (stored_parts_in c.deref_mut.result.now) (layers_in c.deref_mut.result.now)
     (spares_in c.lent_bridges-lent.result.now)) c.in_ok-moment.ensures
     ∙ ap (λ es. charges_by (shells_by (g.O.Opener.opens c.args.opener.now)) (beginning_with c.args.start.now) es
-    (parts_in c.deref_mut.result.now) (layers_in c.deref_mut.result.now)
+    (stored_parts_in c.deref_mut.result.now) (layers_in c.deref_mut.result.now)
     (spares_in c.lent_bridges-lent.result.now))
     (ap entries_of c.deref_mut.ensures.value ∙ ap (λ b. b.kept) c.self.view_is)
     ∙ ap (λ pss. charges_by (shells_by (g.O.Opener.opens c.args.opener.now))
     (beginning_with c.args.start.now) c.args.self.now.kept pss (layers_in c.deref_mut.result.now)
     (spares_in c.lent_bridges-lent.result.now))
-    (ap parts_in c.deref_mut.ensures.value ∙ ap (λ b. b.parts) c.self.view_is)
+    (ap stored_parts_in c.deref_mut.ensures.value ∙ ap (λ b. b.parts) c.self.view_is)
     ∙ ap (λ lss. charges_by (shells_by (g.O.Opener.opens c.args.opener.now))
     (beginning_with c.args.start.now) c.args.self.now.kept c.args.self.now.parts lss
     (spares_in c.lent_bridges-lent.result.now))
@@ -185,9 +186,10 @@ returns-clause-renewed g c =
     grind (arith, common_steps) in
     ap flags_of whole ∙ c.in_ok-charges.ensures.renewed
     ∙ ap (λ m. reached_by_from (shells_by (g.O.Opener.opens c.args.opener.now)) m (entries_of c.deref_mut.result.now)
-    (parts_in c.deref_mut.result.now)) c.in_ok-moment.ensures
+    (stored_parts_in c.deref_mut.result.now)) c.in_ok-moment.ensures
     ∙ ap (λ es. reached_by_from (shells_by (g.O.Opener.opens c.args.opener.now)) (beginning_with c.args.start.now) es
-    (parts_in c.deref_mut.result.now)) (ap entries_of c.deref_mut.ensures.value ∙ ap (λ b. b.kept) c.self.view_is)
+    (stored_parts_in c.deref_mut.result.now)) (ap entries_of c.deref_mut.ensures.value
+    ∙ ap (λ b. b.kept) c.self.view_is)
     ∙ ap (reached_by_from (shells_by (g.O.Opener.opens c.args.opener.now)) (beginning_with c.args.start.now)
     c.args.self.now.kept)
-    (ap parts_in c.deref_mut.ensures.value ∙ ap (λ b. b.parts) c.self.view_is)
+    (ap stored_parts_in c.deref_mut.ensures.value ∙ ap (λ b. b.parts) c.self.view_is)

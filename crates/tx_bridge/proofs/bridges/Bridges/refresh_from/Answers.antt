@@ -3,7 +3,7 @@ use Rattle.std.specs.Prelude.{IfOk, OnOk, OnErr, option_copied}
 use Rattle.tx_bridge.specs.Moments.{beginning_with}
 use Rattle.tx_bridge.specs.Reached.{reached_by_from}
 use Rattle.tx_bridge.specs.Spares.{spares_of}
-use Rattle.tx_bridge.specs.Names.{FreshFrom, FreshPartsFrom, PartFlagsFrom, ChargeFrom}
+use Rattle.tx_bridge.specs.Names.{FreshTracesFrom, FreshPartsFrom, PartFlagsFrom, ChargeFrom}
 use Rattle.tx_bridge.specs.Names.{FreshPartsBy, PartFlagsBy, ChargeBy}
 use Rattle.tx_bridge.proofs.Partway.{OnErr-weaker}
 use Rattle.tx_bridge.proofs.Spared.{layers_unseen}
@@ -44,7 +44,7 @@ unfolding FreshPartsFrom FreshPartsBy
 returns-clause-refused g c =
     OnErr-weaker c.refresh_by.result (λ r. (r.0, r.1, r.2))
     (subst (λ s. OnErr c.refresh_by.result ((n : ℕ) × (c.refresh_by.new.self.kept
-    ≡ take n (FreshFrom c.args.start.now c.args.self.now.kept) ++ drop n c.args.self.now.kept)
+    ≡ take n (FreshTracesFrom c.args.start.now c.args.self.now.kept) ++ drop n c.args.self.now.kept)
     × (c.refresh_by.new.self.parts
     ≡ take n (FreshPartsBy c.args.start.now s c.args.self.now.kept) ++ drop n c.args.self.now.parts)
     × (drop n c.refresh_by.new.self.layers ≡ drop n c.args.self.now.layers)))

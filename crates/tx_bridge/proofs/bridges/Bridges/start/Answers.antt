@@ -1,6 +1,6 @@
 use Rattle.std.proofs.Common.{subst, sym, rules}
 use Rattle.tx_bridge.specs.UnitLists.{AreUnits}
-use Rattle.tx_bridge.specs.Names.{Empty, EmptyParts}
+use Rattle.tx_bridge.specs.Names.{EmptyTraces, EmptyParts}
 use Rattle.tx_bridge.proofs.Arrived.{started}
 use Rattle.tx_bridge.proofs.Aside.{none_aside, none_tidy}
 use Rattle.tx_bridge.proofs.bridges.Bridges.start.Goals as goal
@@ -20,7 +20,7 @@ invariant_of-result c = record {
 }
 
 pub returns-clause-empty : goal.returns-clause-empty
-unfolding Empty
+unfolding EmptyTraces
 returns-clause-empty c =
     (started c.in_ok-bridges_of.field-0.items c.args.units.items c.in_ok-bridges_of.ensures c.requires.units.placed).1
 

@@ -6,7 +6,7 @@ use Rattle.tx_parts.specs.Opening.{shells_by}
 use Rattle.tx_walk.specs.Walked.{IsTidy, stores_in}
 use Rattle.tx_bridge.specs.HeldParts.{PartsHold, kept_parts, flags_of_parts}
 use Rattle.tx_bridge.proofs.ByParts.{sound_of, tidy_of, walked_hold, parts_there, outcome_there, fresh_there}
-use Rattle.tx_bridge.specs.Charges.{LayersKnown}
+use Rattle.tx_bridge.specs.Charges.{UnitLayersKnown}
 use Rattle.tx_bridge.proofs.ByParts.{charge_there, known_there}
 use Rattle.tx_bridge.proofs.Marked.{walked_flags}
 use Rattle.tx_bridge.proofs.moments.Moment.by_parts.Goals as goal
@@ -63,7 +63,7 @@ returns-clause-charge g c =
 
 pub returns-clause-layers : goal.returns-clause-layers
 returns-clause-layers g c =
-    subst (LayersKnown (shells_by (g.O.Opener.opens c.args.opener.now)) c.args.self.now c.args.unit.now)
+    subst (UnitLayersKnown (shells_by (g.O.Opener.opens c.args.opener.now)) c.args.self.now c.args.unit.now)
     (sym c.new-2.ensures)
     (known_there (shells_by (g.O.Opener.opens c.args.opener.now)) c.args.unit.now c.args.self.now c.self.inside.env.map
     c.self.inside.left c.min-allowance.result c.self.view_is c.min-allowance.ensures

@@ -5,7 +5,7 @@ use Rattle.tx_doc.specs.declared.buffer.Buffer.{Buffer}
 use Rattle.tx_units.specs.Units.{units}
 use Rattle.tx_bridge.specs.Carrying.{had}
 use Rattle.tx_bridge.specs.Entries.{Kept, units_of}
-use Rattle.tx_bridge.specs.Names.{PartMoves, Sources, Carry as CarryKept}
+use Rattle.tx_bridge.specs.Names.{PartMoves, Sources, CarryTraces as CarryKept}
 use Rattle.tx_bridge.specs.PartMoves.{Move}
 use Rattle.tx_bridge.specs.PartsKept.{KeptParts}
 use Rattle.tx_bridge.specs.Strays.{StandAside, kept_strays}

@@ -1,7 +1,7 @@
 use Rattle.std.proofs.Common.{true, false, sym, ap, ◌∙◌}
 use Rattle.std.specs.Prelude.{nat_le}
 use Rattle.tx_bridge.proofs.Used.{fits_done, pairs_agree}
-use Rattle.tx_bridge.proofs.fitting.fits.Goals as goal
+use Rattle.tx_bridge.proofs.fitting.can_be_used.Goals as goal
 
 pub agrees_or-requires : goal.agrees_or-requires
 agrees_or-requires c = λ known.
