@@ -43,7 +43,7 @@ with_given i b w = record {
   parts = b.parts;
   layers = b.layers;
   shelled = b.shelled;
-  renewed = w.renewed;
+  reached = w.reached;
   source = Some i;
 }
 

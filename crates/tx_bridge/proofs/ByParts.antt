@@ -253,7 +253,7 @@ module _ (sheller : Sheller) (u : DocUnit) (m : Moment) (env : NameMap) (left a 
 
 -- ---- no more than the unit costs
 
-charge_most : (sheller : Sheller) → IsSheller sheller → (m : Moment) (u : DocUnit) (ks : KeptParts)
+pub charge_most : (sheller : Sheller) → IsSheller sheller → (m : Moment) (u : DocUnit) (ks : KeptParts)
     (ls : List TreeTrace) (s : UnitSpare) → HasPathIfBody u → unit_charge_by sheller m u ks ls s ≤ charge m (outcome_of
     m u)
 unfolding outcome

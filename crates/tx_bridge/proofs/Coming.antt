@@ -21,7 +21,7 @@ with_parts b ps = record {
   parts = ps;
   layers = b.layers;
   shelled = b.shelled;
-  renewed = b.renewed;
+  reached = b.reached;
   source = b.source;
 }
 

@@ -32,7 +32,7 @@ module _ (place : Option (List ℕ)) (i : ℕ) (b : Bridge) where
     parts = b.parts;
     layers = b.layers;
     shelled = b.shelled;
-    renewed = w.renewed;
+    reached = w.reached;
     source = Some i;
   }
 

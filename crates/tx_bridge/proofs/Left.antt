@@ -125,8 +125,8 @@ module _ (m : Moment) (b : Bridge) (sound : IsSoundBridge b) (sheller : Sheller)
         && (not a || are_kept (kept_parts b.parts) (unit_parts_by sheller m b.unit))) none)))
         ∙ stays_closed
 
-    pub left_renewed : false ≡ not (unit_stays_by sheller m (kept_unit b) (kept_parts b.parts))
-    left_renewed = sym (ap not left_stays)
+    pub left_reached : false ≡ not (unit_stays_by sheller m (kept_unit b) (kept_parts b.parts))
+    left_reached = sym (ap not left_stays)
 
     pub left_charge : AllDistinct → LayersFree → (ls : List TreeTrace) (s : UnitSpare)
         → 0 ≡ charge_by sheller m (kept_unit b) (kept_parts b.parts) ls s

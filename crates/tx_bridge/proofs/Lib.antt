@@ -1,6 +1,7 @@
 pub mod Once
 pub mod Used
 pub mod ByParts
+pub mod Bounding
 pub mod PartsSame
 pub mod Paying
 pub mod Partway

@@ -15,7 +15,7 @@ use Rattle.tx_view_form.specs.declared.TheConstants.{MOST_VIEW_STEPS}
 use Rattle.tx_view_form.specs.Outcomes.{Moment, behind, env_behind}
 use Rattle.tx_units.specs.declared.kinds.Unit.{Unit as DocUnit}
 use Rattle.tx_bridge.specs.declared.bridge.Bridge.{Bridge}
-use Rattle.tx_bridge.specs.Entries.{Entry, units_of, fresh_from, outcome_of}
+use Rattle.tx_bridge.specs.Entries.{Entry, units_of, fresh_from, outcome_of, behind_all}
 use Rattle.tx_parts.specs.Opening.{Sheller}
 use Rattle.tx_bridge.specs.Reached.{unit_stays_by, reached_by_from}
 use Rattle.tx_bridge.specs.PartsKept.{KeptParts, fresh_parts_by, fresh_parts_by_from, part_flags_by}
@@ -49,6 +49,7 @@ pub record Partway (sheller : Sheller) (old now : List Bridge) (spares : Spares)
   pub paid : after ≡ before + spent
   pub room : spent + m.left ≤ MOST_VIEW_STEPS
   pub settled : flag ≡ true → AreSettled m.env (entries_of (drop i old))
+  pub last : behind_all m (units_in (drop i old)) ≡ behind_all start (units_in old)
   pub fresh : entries_of (take i now) ++ fresh_from m (units_in (drop i old)) ≡ fresh_from start (units_in old)
   pub parts : stored_parts_in (take i now) ++ fresh_parts_by_from sheller m (units_in (drop i old))
       ≡ fresh_parts_by_from sheller start (units_in old)
@@ -78,6 +79,7 @@ begun sheller old spares start flag before sound settled left = record {
   paid = omega arith;
   room = omega (arith, left);
   settled = settled;
+  last = refl;
   fresh = refl;
   parts = refl;
   marks = refl;
@@ -95,11 +97,11 @@ begun sheller old spares start flag before sound settled left = record {
 -- what an element that is set says of itself
 set_stays : {A : Type 0} (f : Bridge → A) (was : ℕ → Option A) (now : List Bridge) (i : ℕ) (y : Bridge)
     → ((k : ℕ) → slice_get (flags_of now) k ≡ Some false → slice_get (map f now) k ≡ was k)
-    → (y.renewed ≡ false → Some (f y) ≡ was i) → (k : ℕ)
+    → (y.reached ≡ false → Some (f y) ≡ was i) → (k : ℕ)
     → slice_get (flags_of (slice_set now i y)) k ≡ Some false
     → slice_get (map f (slice_set now i y)) k ≡ was k
 set_stays f was [] i y s h k e = s k e
-set_stays f was (x ∷ xs) zero y s h zero e = h (same_Some y.renewed false e)
+set_stays f was (x ∷ xs) zero y s h zero e = h (same_Some y.reached false e)
 set_stays f was (x ∷ xs) zero y s h (suc k) e = s (suc k) e
 set_stays f was (x ∷ xs) (suc i) y s h zero e = s zero e
 set_stays f was (x ∷ xs) (suc i) y s h (suc k) e = set_stays f (λ n. was (suc n)) xs i y (λ n. s (suc n)) h k e
@@ -175,7 +177,7 @@ module _ (sheller : Sheller) (old now : List Bridge) (spares : Spares) (start : 
   more_taken y = take_more_set now i y inside
 
   pub stays_next : (y : Bridge) → y.unit ≡ (slice_index_or now i d).unit
-      → (y.renewed ≡ false → wide_outcome y.kept ≡ wide_outcome (slice_index_or now i d).kept)
+      → (y.reached ≡ false → wide_outcome y.kept ≡ wide_outcome (slice_index_or now i d).kept)
       → Stays old (slice_set now i y)
   unfolding b
   stays_next y unit kept =
@@ -184,7 +186,7 @@ module _ (sheller : Sheller) (old now : List Bridge) (spares : Spares) (start : 
       ∙ sym (get_dropped kept_unit old i b (drop (i + 1) old) ahead))
 
   same_next : (y : Bridge)
-      → (y.renewed ≡ false → kept_parts y.parts ≡ kept_parts (slice_index_or now i d).parts)
+      → (y.reached ≡ false → kept_parts y.parts ≡ kept_parts (slice_index_or now i d).parts)
       → SameParts old (slice_set now i y)
   unfolding b
   same_next y same =
@@ -278,7 +280,7 @@ module _ (sheller : Sheller) (old now : List Bridge) (spares : Spares) (start : 
       → IsBrought sheller (slice_index_or now i d) y m
       → flags_of_parts y.parts
       ≡ part_flags_by sheller m (slice_index_or now i d).unit (kept_parts (slice_index_or now i d).parts)
-      → y.renewed ≡ not (unit_stays_by sheller m (kept_unit (slice_index_or now i d))
+      → y.reached ≡ not (unit_stays_by sheller m (kept_unit (slice_index_or now i d))
       (kept_parts (slice_index_or now i d).parts))
       → m1 ≡ behind m (outcome_of m (slice_index_or now i d).unit)
       → charge ≡ charge_by sheller m (kept_unit (slice_index_or now i d)) (kept_parts (slice_index_or now i d).parts)
@@ -286,8 +288,8 @@ module _ (sheller : Sheller) (old now : List Bridge) (spares : Spares) (start : 
       → UnitLayersKnown sheller m (slice_index_or now i d).unit y.layers
       → after1 ≡ after + charge → charge + m1.left ≤ m.left
       → IsSoundBridge y
-      → (y.renewed ≡ false → wide_outcome y.kept ≡ wide_outcome (slice_index_or now i d).kept)
-      → (y.renewed ≡ false → kept_parts y.parts ≡ kept_parts (slice_index_or now i d).parts)
+      → (y.reached ≡ false → wide_outcome y.kept ≡ wide_outcome (slice_index_or now i d).kept)
+      → (y.reached ≡ false → kept_parts y.parts ≡ kept_parts (slice_index_or now i d).parts)
       → y.source ≡ (slice_index_or now i d).source
       → (flag1 ≡ true
       → (flag ≡ true) × (m1.env ≡ env_behind m.env (wide_outcome (slice_index_or now i d).kept)))
@@ -300,6 +302,9 @@ module _ (sheller : Sheller) (old now : List Bridge) (spares : Spares) (start : 
         settled =
             λ e. subst (λ (env : NameMap). AreSettled env (entries_of (drop (i + 1) old))) (sym (goes e).1)
             (settled_here (goes e).0).1;
+        last =
+            ap (λ n. behind_all n (units_in (drop (i + 1) old))) is_m
+            ∙ ap (λ bs. behind_all m (units_in bs)) (sym ahead) ∙ p.last;
         fresh =
             ap (λ n. entries_of (take (i + 1) (slice_set now i y)) ++ fresh_from n (units_in (drop (i + 1) old))) is_m
             ∙ front_next y brought;
@@ -318,10 +323,10 @@ module _ (sheller : Sheller) (old now : List Bridge) (spares : Spares) (start : 
             (i + 1) old))) (more_taken y)
             ∙ ap (λ fs. fs ++ reached_by_from sheller m1 (entries_of (drop (i + 1) old)) (stored_parts_in (drop (i
             + 1) old)))
-            (map-append (λ (w : Bridge). w.renewed) (take i now) (y ∷ []))
-            ∙ append_assoc (flags_of (take i now)) (y.renewed ∷ []) (reached_by_from sheller m1 (entries_of (drop
+            (map-append (λ (w : Bridge). w.reached) (take i now) (y ∷ []))
+            ∙ append_assoc (flags_of (take i now)) (y.reached ∷ []) (reached_by_from sheller m1 (entries_of (drop
             (i + 1) old)) (stored_parts_in (drop (i + 1) old)))
-            ∙ ap (λ n. flags_of (take i now) ++ y.renewed ∷ reached_by_from sheller n (entries_of (drop (i + 1) old))
+            ∙ ap (λ n. flags_of (take i now) ++ y.reached ∷ reached_by_from sheller n (entries_of (drop (i + 1) old))
             (stored_parts_in (drop (i + 1) old))) is_m
             ∙ ap (λ r. flags_of (take i now)
             ++ r ∷ reached_by_from sheller (behind m (outcome_of m b.unit)) (entries_of (drop (i
@@ -466,7 +471,7 @@ pub ended : (sheller : Sheller) (old now : List Bridge) (spares : Spares) (start
     × (spent ≡ charges_by sheller start (entries_of old) (stored_parts_in old) (layers_in old) spares)
     × (stored_parts_in now ≡ fresh_parts_by_from sheller start (units_in old))
     × (part_flags_in now ≡ part_flags_by_from sheller start (entries_of old) (stored_parts_in old))
-    × AllLayersKnown sheller start (units_in old) (layers_in now)
+    × AllLayersKnown sheller start (units_in old) (layers_in now) × (m ≡ behind_all start (units_in old))
 ended sheller old now spares start i m flag before after spent p past =
     let whole : take i now ≡ now = grind (arith, common_steps, past) in
     let none : drop i old ≡ [] = sym p.rest ∙ drop_all i now past in
@@ -494,6 +499,7 @@ ended sheller old now spares start i m flag before after spent p past =
       subst (AllLayersKnown sheller start (units_in old))
           (ap (λ bs. layers_in bs ++ []) whole ∙ append-nil (layers_in now))
           (p.known [] (subst (λ bs. AllLayersKnown sheller m (units_in bs) []) (sym none) tt)),
+      sym (ap (λ bs. behind_all m (units_in bs)) none) ∙ p.last,
     )
 
 pub any_err : {A E P : Type 0} (r : Result A E) → P → OnErr r P

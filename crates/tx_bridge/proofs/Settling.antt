@@ -50,7 +50,7 @@ settled_one false k b u = record {
   parts = b.parts;
   layers = b.layers;
   shelled = b.shelled;
-  renewed = false;
+  reached = false;
   source = Some k;
 }
 

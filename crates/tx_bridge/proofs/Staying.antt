@@ -164,13 +164,13 @@ stays_by sheller m b ds true sound is bare are flags =
         (each_kept b.parts sound.parts.distinct) f g
         ∙ ap (λ a. not a || are_kept (kept_parts b.parts) (unit_parts_by sheller m b.unit)) (sym n)
 
-pub renewed_is : (sheller : Sheller) (m : Moment) (b : Bridge) (ds ks es : List DonePart) (used stays : Bool)
+pub reached_is : (sheller : Sheller) (m : Moment) (b : Bridge) (ds ks es : List DonePart) (used stays : Bool)
     → IsSoundBridge b → used ≡ can_be_used m (wide_outcome b.kept) → (has_parts b.unit ≡ false → used ≡ false)
     → kept_parts ds ≡ fresh_parts_by sheller m b.unit
     → flags_of_parts ds ≡ part_flags_by sheller m b.unit (kept_parts b.parts) → ks ≡ b.parts → es ≡ ds
     → stays ≡ used && are_same_parts ks es
     → not stays ≡ not (unit_stays_by sheller m (kept_unit b) (kept_parts b.parts))
-renewed_is sheller m b ds ks es used stays sound is bare are flags own now h =
+reached_is sheller m b ds ks es used stays sound is bare are flags own now h =
     ap not (h ∙ ap (λ xs. used && are_same_parts xs es) own ∙ ap (λ xs. used && are_same_parts b.parts xs) now
     ∙ stays_by sheller m b ds used sound is bare are flags)
 

@@ -2,6 +2,7 @@
 use Rattle.std.specs.Prelude.{ℕ, Bool, List, Option, refl}
 use Rattle.std.specs.Coded.{Coded, code_by, coded×, coded_list, coded_option, coded_bool, coded_ℕ}
 use Rattle.tx_tree.specs.WideTree.{WideTree, coded_WideTree}
+use Rattle.tx_env.specs.Environments.{NameMap, coded_NameMap}
 use Rattle.tx_exec_form.specs.Evaluated.{WideTrace}
 use Rattle.tx_units.specs.declared.kinds.Unit.{Unit as DocUnit}
 use Rattle.tx_units.specs.contracts.kinds.Unit as one_unit
@@ -13,15 +14,16 @@ use Rattle.tx_bridge.specs.Strays.{Stray}
 
 -- What is kept of the units, of their parts and of the trees of their layers, and of strays, and which unit each was
 -- before the last edit. Of each unit there is a flag, which says behind a refresh whether it was reached when that
--- began, and one of each part. An edit may take flags off.
+-- began, and one of each part. An edit may take flags off. With them goes what names had behind the last unit then.
 pub record Bridged : Type 0 where
   pub kept : Kept
   pub parts : List KeptParts
   pub part_flags : List (List Bool)
   pub layers : List (List TreeTrace)
-  pub renewed : List Bool
+  pub reached : List Bool
   pub sources : List (Option ℕ)
   pub strays : List Stray
+  pub end : NameMap
 
 -- ---- the code by which proofs tell them apart
 
@@ -47,19 +49,20 @@ abbrev pub coded_Bridged : Coded Bridged
 coded_Bridged =
     code_by
     (Kept × (List KeptParts × (List (List Bool) × (List (List TreeTrace)
-    × (List Bool × (List (Option ℕ) × List Stray))))))
+    × (List Bool × (List (Option ℕ) × (List Stray × NameMap)))))))
     (coded× (coded_list coded_Entry)
     (coded× coded_parts
     (coded× (coded_list (coded_list coded_bool))
     (coded× (coded_list (coded_list coded_TreeTrace))
-    (coded× (coded_list coded_bool) (coded× (coded_list (coded_option coded_ℕ)) (coded_list coded_Stray)))))))
-    (λ b. (b.kept, (b.parts, (b.part_flags, (b.layers, (b.renewed, (b.sources, b.strays)))))))
+    (coded× (coded_list coded_bool) (coded× (coded_list (coded_option coded_ℕ)) (coded× (coded_list coded_Stray) coded_NameMap)))))))
+    (λ b. (b.kept, (b.parts, (b.part_flags, (b.layers, (b.reached, (b.sources, (b.strays, b.end))))))))
     (λ p. record {
       kept = p.0;
       parts = p.1.0;
       part_flags = p.1.1.0;
       layers = p.1.1.1.0;
-      renewed = p.1.1.1.1.0;
+      reached = p.1.1.1.1.0;
       sources = p.1.1.1.1.1.0;
-      strays = p.1.1.1.1.1.1;
+      strays = p.1.1.1.1.1.1.0;
+      end = p.1.1.1.1.1.1.1;
     }) (λ _. refl)

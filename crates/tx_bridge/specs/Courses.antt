@@ -85,7 +85,7 @@ joined_by ps b = record {
   parts = b.parts ++ ps;
   layers = b.layers;
   shelled = b.shelled;
-  renewed = b.renewed;
+  reached = b.reached;
   source = b.source;
 }
 

@@ -19,6 +19,7 @@ pub mod UnitLists
 pub mod Bridged
 pub mod Spares
 pub mod Charges
+pub mod Bound
 pub mod Lent
 pub mod Names
 pub mod KeptInDocument

@@ -3,17 +3,19 @@ use Rattle.std.specs.Prelude.{◌≡◌, ℕ, Bool, List, [], length, map, Optio
 use Rattle.std.specs.List.{All}
 use Rattle.tx_tree.specs.WideTree.{WideTree}
 use Rattle.tx_env.specs.Pairs.{Name}
+use Rattle.tx_env.specs.Environments.{NameMap}
 use Rattle.tx_mod.specs.declared.mods.Mod.{Mod}
 use Rattle.tx_units.specs.declared.kinds.Unit.{Unit as DocUnit}
 use Rattle.tx_view_form.specs.Outcomes.{beginning}
 use Rattle.tx_parts.specs.Opening.{Sheller}
 use Rattle.tx_walk.specs.LayerTraces.{TreeTrace}
 use Rattle.tx_bridge.specs.Moments.{beginning_with}
-use Rattle.tx_bridge.specs.Entries.{Kept, units_of, nothing_kept, fresh_from}
+use Rattle.tx_bridge.specs.Entries.{Kept, units_of, nothing_kept, fresh_from, behind_all}
 use Rattle.tx_bridge.specs.PartsKept.{KeptParts, fresh_parts_from, part_flags_from}
 use Rattle.tx_bridge.specs.PartsKept.{fresh_parts_by_from, part_flags_by_from}
 use Rattle.tx_bridge.specs.Spares.{Spares}
 use Rattle.tx_bridge.specs.Charges.{charges_from, charges_with, charges_by, AllLayersKnown}
+use Rattle.tx_bridge.specs.Bound.{bounds_by}
 use Rattle.tx_bridge.specs.declared.course.Course.{Course}
 use Rattle.tx_bridge.specs.Carrying.{carried, sources, layers_now, mods_of, unit_places_after}
 use Rattle.tx_bridge.specs.CarryingParts.{parts_but}
@@ -41,6 +43,10 @@ FreshParts kept = fresh_parts_from beginning (units_of kept)
 unfoldable pub PartFlags : Kept → List KeptParts → List (List Bool)
 PartFlags kept parts = part_flags_from beginning kept parts
 
+-- what names have behind these units
+unfoldable pub End : Kept → NameMap
+End kept = (behind_all beginning (units_of kept)).env
+
 -- the charges of all units
 unfoldable pub Charge : Kept → List KeptParts → ℕ
 Charge kept parts = charges_from beginning kept parts
@@ -55,6 +61,9 @@ FreshPartsFrom start kept = fresh_parts_from (beginning_with start) (units_of ke
 
 unfoldable pub PartFlagsFrom : List (Name × WideTree) → Kept → List KeptParts → List (List Bool)
 PartFlagsFrom start kept parts = part_flags_from (beginning_with start) kept parts
+
+unfoldable pub EndFrom : List (Name × WideTree) → Kept → NameMap
+EndFrom start kept = (behind_all (beginning_with start) (units_of kept)).env
 
 -- the charges, where so much is spare of the units
 unfoldable pub ChargeFrom : List (Name × WideTree) → Kept → List KeptParts → Spares → ℕ
@@ -72,6 +81,10 @@ PartFlagsBy start sheller kept parts = part_flags_by_from sheller (beginning_wit
 unfoldable pub ChargeBy : List (Name × WideTree) → Sheller → Kept → List KeptParts → List (List TreeTrace) → Spares
     → ℕ
 ChargeBy start sheller kept parts layers spares = charges_by sheller (beginning_with start) kept parts layers spares
+
+-- what is charged at most, told by the units that are touched and the parts that are reached
+unfoldable pub BoundBy : List (Name × WideTree) → Sheller → Kept → List KeptParts → List (List TreeTrace) → Spares → ℕ
+BoundBy start sheller kept parts layers spares = bounds_by sheller (beginning_with start) kept parts layers spares
 
 -- By what is kept of the layers of units, none of their trees is to be evaluated, but in a unit that is over.
 unfoldable pub KnowsLayers : List (Name × WideTree) → Sheller → Kept → List (List TreeTrace) → Type 0

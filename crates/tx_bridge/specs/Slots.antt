@@ -26,7 +26,7 @@ given_from place i b j (w ∷ ws) =
       parts = b.parts;
       layers = b.layers;
       shelled = b.shelled;
-      renewed = w.renewed;
+      reached = w.reached;
       source = Some i;
     }
     else w)
@@ -46,7 +46,7 @@ fresh_bridge u = record {
   parts = [];
   layers = [];
   shelled = false;
-  renewed = false;
+  reached = false;
   source = None;
 }
 

@@ -53,7 +53,7 @@ abbrev pub layers_in : List Bridge → List (List TreeTrace)
 layers_in bs = map (λ b. b.layers) bs
 
 abbrev pub flags_of : List Bridge → List Bool
-flags_of bs = map (λ b. b.renewed) bs
+flags_of bs = map (λ b. b.reached) bs
 
 abbrev pub sources_in : List Bridge → List (Option ℕ)
 sources_in bs = map (λ b. b.source) bs
@@ -77,7 +77,7 @@ changed_bridge t ps b =
       parts = ps;
       layers = b.layers;
       shelled = b.shelled;
-      renewed = b.renewed;
+      reached = b.reached;
       source = b.source;
     }
 

@@ -49,7 +49,7 @@ pub(crate) struct Bridge {
     pub(crate) parts: UnitParts,
     pub(crate) layers: UnitLayers,
     pub(crate) shelled: bool,
-    pub(crate) renewed: bool,
+    pub(crate) reached: bool,
     pub(crate) source: Option<usize>,
 }
 
@@ -92,7 +92,7 @@ impl Bridge {
           parts = [];
           layers = [];
           shelled = false;
-          renewed = false;
+          reached = false;
           source = None;
         } }
     {
@@ -102,7 +102,7 @@ impl Bridge {
             parts: UnitParts::none(alloc),
             layers: UnitLayers::none(alloc),
             shelled: false,
-            renewed: false,
+            reached: false,
             source: None,
         }
     }
@@ -128,7 +128,7 @@ impl Bridge {
           parts = old.old.parts;
           layers = old.old.layers;
           shelled = old.old.shelled;
-          renewed = self.old.renewed;
+          reached = self.old.reached;
           source = Some i;
         } }
     {
@@ -148,13 +148,13 @@ impl Bridge {
           parts = unmarked self.old.parts;
           layers = self.old.layers;
           shelled = self.old.shelled;
-          renewed = false;
+          reached = false;
           source = self.old.source;
         } }
     {
         self.parts.unmark();
-        if self.renewed {
-            self.renewed = false;
+        if self.reached {
+            self.reached = false;
         }
     }
 
@@ -285,11 +285,11 @@ impl Bridge {
             ≡ fresh_parts_by (shells_by (O.opens opener.now)) moment.old self.old.unit) }
         ensures flags { OnOk result (flags_of_parts self.new.parts
             ≡ part_flags_by (shells_by (O.opens opener.now)) moment.old self.old.unit (kept_parts self.old.parts)) }
-        ensures renewed { OnOk result (self.new.renewed
+        ensures reached { OnOk result (self.new.reached
             ≡ not (unit_stays_by (shells_by (O.opens opener.now)) moment.old (kept_unit self.old)
             (kept_parts self.old.parts))) }
-        ensures stays { self.new.renewed ≡ false → wide_outcome self.new.kept ≡ wide_outcome self.old.kept }
-        ensures parts_same { self.new.renewed ≡ false → kept_parts self.new.parts ≡ kept_parts self.old.parts }
+        ensures stays { self.new.reached ≡ false → wide_outcome self.new.kept ≡ wide_outcome self.old.kept }
+        ensures parts_same { self.new.reached ≡ false → kept_parts self.new.parts ≡ kept_parts self.old.parts }
         ensures moment { moment.new ≡ moment.old }
         ensures charge { IfOk result (λ n. n ≡ unit_charge_by (shells_by (O.opens opener.now)) moment.old self.old.unit
             (kept_parts self.old.parts) self.old.layers (spare_of (option_copied spare.entry))) }
@@ -311,7 +311,7 @@ impl Bridge {
         self.parts = evaluated.parts;
         self.layers = evaluated.layers;
         self.shelled = shelled;
-        self.renewed = !stays;
+        self.reached = !stays;
         Ok(evaluated.charge)
     }
 
@@ -350,11 +350,11 @@ impl Bridge {
             ≡ fresh_parts_by (shells_by (O.opens opener.now)) moment.old self.old.unit) }
         ensures flags { OnOk result (flags_of_parts self.new.parts
             ≡ part_flags_by (shells_by (O.opens opener.now)) moment.old self.old.unit (kept_parts self.old.parts)) }
-        ensures renewed { OnOk result (self.new.renewed
+        ensures reached { OnOk result (self.new.reached
             ≡ not (unit_stays_by (shells_by (O.opens opener.now)) moment.old (kept_unit self.old)
             (kept_parts self.old.parts))) }
-        ensures stays { self.new.renewed ≡ false → wide_outcome self.new.kept ≡ wide_outcome self.old.kept }
-        ensures parts_same { self.new.renewed ≡ false → kept_parts self.new.parts ≡ kept_parts self.old.parts }
+        ensures stays { self.new.reached ≡ false → wide_outcome self.new.kept ≡ wide_outcome self.old.kept }
+        ensures parts_same { self.new.reached ≡ false → kept_parts self.new.parts ≡ kept_parts self.old.parts }
         ensures behind { OnOk result (moment.new ≡ behind moment.old (outcome_of moment.old self.old.unit)) }
         ensures settled { IfOk result (λ p. p.1 ≡ true → (settled ≡ true)
             × (moment.new.env ≡ env_behind moment.old.env (wide_outcome self.old.kept))) }

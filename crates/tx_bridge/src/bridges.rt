@@ -1,44 +1,33 @@
 // All units with what is kept of them.
-ghost use Rattle.std.specs.Prelude.{◌≡◌, ℕ, ◌+◌, ◌≤◌, ◌++◌, take, drop, map, IfOk, OnOk, OnErr, Some, None};
-ghost use Rattle.std.specs.Prelude.{[], false, true, MatchOption, slice_get, IsSome, IfSome, IsOk, option_and_then};
-ghost use Rattle.std.specs.Prelude.{length, List, option_copied};
+ghost use Rattle.std.specs.Prelude.{◌≡◌, ℕ, ◌+◌, ◌≤◌, ◌++◌, take, map, IfOk, OnOk, OnErr, Some, None};
+ghost use Rattle.std.specs.Prelude.{[], false, MatchOption, slice_get, IsSome, IfSome, option_and_then};
+ghost use Rattle.std.specs.Prelude.{length, List};
 ghost use Rattle.std.specs.Option.{unwrap_or, option_map};
 ghost use Rattle.std.specs.List.{All, IsDistinct};
 ghost use Rattle.std.specs.Str.{bytes_eq};
-ghost use Rattle.std.specs.FinMap as maps;
+ghost use Rattle.std.specs.FinMap.{empty};
 ghost use Rattle.tx_tree.specs.WideTree.{WideTree};
 ghost use Rattle.tx_mod.specs.InTurn.{cost_of};
 ghost use Rattle.tx_mod.specs.Followed.{changed_by_all};
-ghost use Rattle.tx_exec.specs.Outcomes.{wide_outcome, NamesOnce};
+ghost use Rattle.tx_exec.specs.Outcomes.{wide_outcome};
 ghost use Rattle.tx_walk.specs.Walked.{IsTidy, paths_of};
 ghost use Rattle.tx_units.specs.Units.{units_with};
 ghost use Rattle.tx_units.specs.declared.kinds.Unit.{Unit as DocUnit};
-ghost use Rattle.tx_view_form.specs.declared.TheConstants.{MOST_VIEW_STEPS};
-ghost use Rattle.tx_view_form.specs.Outcomes.{beginning, behind, unit_value};
-ghost use Rattle.tx_bridge.specs.Moments.{IsPaid, beginning_with};
-ghost use Rattle.tx_bridge.specs.Entries.{Entry, units_of, fresh_from, outcome_of, behind_all};
-ghost use Rattle.tx_parts.specs.Opening.{opens_nothing, shells_by};
-ghost use Rattle.tx_bridge.specs.Reached.{reached_from, reached_by_from};
+ghost use Rattle.tx_view_form.specs.Outcomes.{behind, unit_value};
+ghost use Rattle.tx_bridge.specs.Moments.{IsPaid};
+ghost use Rattle.tx_bridge.specs.Entries.{Entry, units_of, outcome_of};
 ghost use Rattle.tx_bridge.specs.MovedParts.{AreMovedParts};
-ghost use Rattle.tx_bridge.specs.PartsKept.{KeptParts, PartsStay, fresh_parts_by_from, part_flags_by_from};
-ghost use Rattle.tx_bridge.specs.Spares.{spares_of};
-ghost use Rattle.tx_bridge.specs.Charges.{charges_by, AllLayersKnown};
-ghost use Rattle.tx_bridge.specs.Lent.{spares_in, HaveUnitsOf};
+ghost use Rattle.tx_bridge.specs.PartsKept.{KeptParts};
 ghost use Rattle.tx_bridge.specs.HeldParts.{AllPartsHold, kept_parts, flags_of_parts};
-ghost use Rattle.tx_bridge.specs.Settled.{AreSettled};
-ghost use Rattle.tx_bridge.specs.Sound.{IsSoundBridge, AllHold, kept_unit, entries_of, stored_parts_in, part_flags_in};
-ghost use Rattle.tx_bridge.specs.Sound.{flags_of};
-ghost use Rattle.tx_bridge.specs.Sound.{layers_in, sources_in, source_by};
+ghost use Rattle.tx_bridge.specs.Sound.{IsSoundBridge, AllHold, source_by};
 ghost use Rattle.tx_bridge.specs.UnitLists.{AreUnits, HasPathIfBody};
-ghost use Rattle.tx_bridge.specs.Carrying.{AllLead, AllStand, StandsNow, AreSameBodies, HaveSameTrees};
-ghost use Rattle.tx_bridge.specs.Carrying.{through, mods_of};
+ghost use Rattle.tx_bridge.specs.Carrying.{AllStand, StandsNow, AreSameBodies, HaveSameTrees};
+ghost use Rattle.tx_bridge.specs.Carrying.{through};
 ghost use Rattle.tx_bridge.specs.Slots.{paths_in};
 ghost use Rattle.tx_bridge.specs.Courses.{given_with, strays_left};
 ghost use Rattle.tx_mod.specs.declared.mods.Mod.{Mod as Change};
 ghost use Rattle.tx_bridge.specs.InPlace.{IsOneChanged, NoneChanged, numbers_but};
-ghost use Rattle.tx_bridge.specs.Names.{EmptyTraces, EmptyParts, FreshTraces, FreshParts, PartFlags, Charge};
-ghost use Rattle.tx_bridge.specs.Names.{FreshTracesFrom, FreshPartsFrom, PartFlagsFrom, ChargeFrom};
-ghost use Rattle.tx_bridge.specs.Names.{FreshPartsBy, PartFlagsBy, ChargeBy, KnowsLayers};
+ghost use Rattle.tx_bridge.specs.Names.{EmptyTraces, EmptyParts};
 ghost use Rattle.tx_bridge.specs.Names.{CarryTraces, CarryParts, CarryStrays, CarryWithin, IsCourse, PartMoves};
 ghost use Rattle.tx_bridge.specs.Names.{Sources};
 ghost use Rattle.tx_bridge.specs.Names.{CarryLayers, StraysBeside};
@@ -53,17 +42,15 @@ use crate::moments::Moment;
 use crate::strays::{Stray, keep_beside};
 use std::alloc::Global;
 use std::marker::Model;
-use std::mem;
 use std::sync::ledger::Ledger;
 use tx_base::{Memory, Steps};
-use tx_env::Writes;
+use tx_env::Env;
 use tx_exec::Outcome;
 use tx_exec_form::{size_law, trace_laws};
 use tx_mod::{Mod, carried_law, carried_list_law};
-use tx_parts::{opened_cost_law, opened_fitting_law, opened_standing_law, opener_law};
 use tx_tree::Tree;
 use tx_units::Unit;
-use tx_walk::{Closed, LayerTrace, Opener, Part};
+use tx_walk::{LayerTrace, Part};
 
 /// All units, each with the trace that is kept of it, or nothing.
 ///
@@ -71,11 +58,13 @@ use tx_walk::{Closed, LayerTrace, Opener, Part};
 /// looks. So it is of each part, and of each stray: a part that is kept, but stands in no unit since an edit.
 #[derive(Drop)]
 pub struct Bridges {
-    bridges: Vec<Bridge>,
+    pub(crate) bridges: Vec<Bridge>,
     way: Way,
     // Whether all looks are known to agree with what the kept traces before them set.
-    settled: bool,
-    strays: Vec<Stray>,
+    pub(crate) settled: bool,
+    pub(crate) strays: Vec<Stray>,
+    // What names had behind the last unit at the last refresh.
+    pub(crate) end: Env,
 }
 
 impl Model for Bridges {
@@ -93,9 +82,10 @@ impl Model for Bridges {
       parts = stored_parts_in b.bridges.items;
       part_flags = part_flags_in b.bridges.items;
       layers = layers_in b.bridges.items;
-      renewed = flags_of b.bridges.items;
+      reached = flags_of b.bridges.items;
       sources = sources_by b.way b.bridges.items;
       strays = strays_in b.strays.items;
+      end = b.end.map;
     } };
 
     ghost invariant = { λ b. AreRight b.settled b.bridges.items b.strays.items };
@@ -110,7 +100,7 @@ fn bridges_of(alloc: Global, units: Vec<Unit>) -> Result<Vec<Bridge>, Memory>
           parts = [];
           layers = [];
           shelled = false;
-          renewed = false;
+          reached = false;
           source = None;
         })
         units.items) }
@@ -121,111 +111,6 @@ fn bridges_of(alloc: Global, units: Vec<Unit>) -> Result<Vec<Bridge>, Memory>
             .map(|unit| Bridge::new(alloc, unit))
             .collect(alloc)?,
     )
-}
-
-// What others have kept of the units, and nothing where there are no others.
-fn lent_bridges<'a>(spare: Option<&'a Bridges>) -> &'a [Bridge]
-    ensures spares { spares_in result.now ≡ spares_of (option_copied spare.entry) }
-    ensures kept { MatchOption (option_copied spare.entry) (result.now ≡ [])
-        (λ others. entries_of result.now ≡ others.kept) }
-    ensures sound { All IsSoundBridge result.now }
-{
-    match spare {
-        None => &[],
-        Some(others) => &others.bridges,
-    }
-}
-
-// What others have kept of the unit of this number.
-fn lent_at(lent: &[Bridge], i: usize) -> Option<&Bridge>
-    ensures { option_copied result ≡ slice_get lent.now i }
-{
-    lent.get(i)
-}
-
-// Brings each unit to what evaluating from this moment on gives, and answers the charges. For want of memory it stops:
-// those before are brought there, and the others are as they were.
-//
-// Where all looks are known to agree with what the kept traces before them set, none are compared, up to a unit that is
-// evaluated anew and sets names, or whose kept trace did.
-//
-// Where it isn't `shelled`, the opener opens nothing.
-fn refresh_all<O: Opener, L: Ledger>(
-    alloc: Global,
-    bridges: &mut [Bridge],
-    start: Moment,
-    settled: bool,
-    opener: &O,
-    shelled: bool,
-    spare: &[Bridge],
-    steps: &mut Steps<L>,
-) -> Result<u64, Memory>
-    requires sound { All IsSoundBridge bridges.old }
-    requires left { start.left ≤ MOST_VIEW_STEPS }
-    requires settled { settled ≡ true → AreSettled start.env (entries_of bridges.old) }
-    requires spare { All IsSoundBridge spare.now }
-    requires same { HaveUnitsOf spare.now bridges.old }
-    requires shut { shelled ≡ false → O.opens opener.now ≡ opens_nothing }
-    ensures fresh { OnOk result (entries_of bridges.new ≡ fresh_from start (units_of (entries_of bridges.old))) }
-    ensures parts { OnOk result (stored_parts_in bridges.new
-        ≡ fresh_parts_by_from (shells_by (O.opens opener.now)) start (units_of (entries_of bridges.old))) }
-    ensures parts_renewed { OnOk result (part_flags_in bridges.new
-        ≡ part_flags_by_from (shells_by (O.opens opener.now)) start (entries_of bridges.old) (stored_parts_in
-        bridges.old)) }
-    ensures renewed { OnOk result (flags_of bridges.new
-        ≡ reached_by_from (shells_by (O.opens opener.now)) start (entries_of bridges.old) (stored_parts_in
-        bridges.old)) }
-    ensures charge { IfOk result (λ n. n ≡ charges_by (shells_by (O.opens opener.now)) start (entries_of bridges.old)
-        (stored_parts_in bridges.old) (layers_in bridges.old) (spares_in spare.now)) }
-    ensures layers { OnOk result (AllLayersKnown (shells_by (O.opens opener.now)) start
-        (units_of (entries_of bridges.old)) (layers_in bridges.new)) }
-    ensures counted { IfOk result (λ n. steps.new ≡ steps.old + n) }
-    ensures most { IfOk result (λ n. n ≤ MOST_VIEW_STEPS) }
-    ensures sound { All IsSoundBridge bridges.new }
-    ensures units { units_of (entries_of bridges.new) ≡ units_of (entries_of bridges.old) }
-    ensures sources { sources_in bridges.new ≡ sources_in bridges.old }
-    ensures stays { (i : ℕ) → slice_get (flags_of bridges.new) i ≡ Some false
-        → slice_get (entries_of bridges.new) i ≡ slice_get (entries_of bridges.old) i }
-    ensures parts_same { OnOk result ((i : ℕ) → slice_get (flags_of bridges.new) i ≡ Some false
-        → slice_get (stored_parts_in bridges.new) i ≡ slice_get (stored_parts_in bridges.old) i) }
-    ensures refused { OnErr result ((n : ℕ) × (entries_of bridges.new
-        ≡ take n (fresh_from start (units_of (entries_of bridges.old))) ++ drop n (entries_of bridges.old))
-        × (stored_parts_in bridges.new ≡ take n (fresh_parts_by_from (shells_by (O.opens opener.now)) start
-        (units_of (entries_of bridges.old))) ++ drop n (stored_parts_in bridges.old))
-        × (drop n (layers_in bridges.new) ≡ drop n (layers_in bridges.old))) }
-{
-    let mut moment = start;
-    let mut still = settled;
-    let mut charges = 0;
-    for i in 0..bridges.len() {
-        let other = lent_at(spare, i);
-        let (charge, goes_on) = bridges[i].refresh(
-            alloc,
-            &mut moment,
-            still,
-            opener,
-            shelled,
-            other,
-            steps,
-        )?;
-        still = goes_on;
-        charges += charge;
-    }
-    Ok(charges)
-}
-
-// The moment behind all units, of each of which is kept what it comes to from this moment on.
-fn moment_behind(start: Moment, bridges: &[Bridge]) -> Result<Moment, Memory>
-    requires sound { All IsSoundBridge bridges.now }
-    requires fresh { entries_of bridges.now ≡ fresh_from start (units_of (entries_of bridges.now)) }
-    ensures { IfOk result (λ m. m ≡ behind_all start (units_of (entries_of bridges.now))) }
-{
-    trace_laws();
-    let mut moment = start;
-    for bridge in bridges {
-        moment.go_behind(&bridge.kept)?;
-    }
-    Ok(moment)
 }
 
 // The new units, with what the old ones give through an edit of a buffer, and with the parts that move to them, and the
@@ -277,203 +162,15 @@ impl Bridges {
         ensures units { IfOk result (λ b. units_of b.kept ≡ units.items) }
         ensures sources { IfOk result (λ b. b.sources ≡ map (λ u. None) units.items) }
         ensures strays { IfOk result (λ b. b.strays ≡ []) }
+        ensures end { IfOk result (λ b. b.end ≡ empty) }
     {
         Ok(Bridges {
             bridges: bridges_of(alloc, units)?,
             way: Way::Listed,
             settled: false,
             strays: Vec::new(alloc),
+            end: Env::new(alloc),
         })
-    }
-
-    /// Brings each unit to what evaluating all from nothing gives. What is kept of a unit is used again where its looks
-    /// agree with what names have before it, and its cost is allowed. The steps rise by the charges, which it answers:
-    /// a paragraph of the body is charged its parts of which nothing that fits is kept, and another unit its cost, where
-    /// nothing that fits is kept of it. A paragraph is reached also where its parts aren't those that were kept, as
-    /// behind a refresh with an opener.
-    ///
-    /// What is kept of a part whose flag is down behind it is what was kept at the part's path. Of a unit that wasn't
-    /// reached all that was kept of its parts stays. Strays go.
-    ///
-    /// For want of memory the units before some number are brought there, and the others are as they were, as strays
-    /// are.
-    pub fn refresh<L: Ledger>(&mut self, alloc: Global, steps: &mut Steps<L>) -> Result<u64, Memory>
-        ensures fresh { OnOk result (self.new.kept ≡ FreshTraces self.old.kept) }
-        ensures parts { OnOk result (self.new.parts ≡ FreshParts self.old.kept) }
-        ensures parts_renewed { OnOk result (self.new.part_flags ≡ PartFlags self.old.kept self.old.parts) }
-        ensures parts_stay { OnOk result (PartsStay self.old.parts self.new.parts self.new.part_flags) }
-        ensures parts_same { OnOk result ((i : ℕ) → slice_get self.new.renewed i ≡ Some false
-            → slice_get self.new.parts i ≡ slice_get self.old.parts i) }
-        ensures renewed { OnOk result (self.new.renewed ≡ reached_from beginning self.old.kept self.old.parts) }
-        ensures charge { IfOk result (λ n. n ≡ Charge self.old.kept self.old.parts) }
-        ensures counted { IfOk result (λ n. steps.new ≡ steps.old + n) }
-        ensures most { IfOk result (λ n. n ≤ MOST_VIEW_STEPS) }
-        ensures units { units_of self.new.kept ≡ units_of self.old.kept }
-        ensures sources { self.new.sources ≡ self.old.sources }
-        ensures stays { (i : ℕ) → slice_get self.new.renewed i ≡ Some false
-            → slice_get self.new.kept i ≡ slice_get self.old.kept i }
-        ensures refused { OnErr result ((n : ℕ) × (self.new.kept
-            ≡ take n (FreshTraces self.old.kept) ++ drop n self.old.kept)
-            × (self.new.parts ≡ take n (FreshParts self.old.kept) ++ drop n self.old.parts)) }
-        ensures strays { OnOk result (self.new.strays ≡ []) }
-        ensures strays_stay { OnErr result (self.new.strays ≡ self.old.strays) }
-    {
-        opened_cost_law();
-        let none = Writes::new(Vec::new(alloc));
-        self.refresh_from(alloc, &none, None, steps)
-    }
-
-    /// Brings each unit to what evaluating all of them gives where these names are set before the first one, in order.
-    /// `refresh` is this with no names and no spare.
-    ///
-    /// What the spare has kept of the same units, of which nothing more is known, serves where what is kept doesn't,
-    /// and costs nothing: of a paragraph of the body part by part, and of another unit the whole. Flags don't count it:
-    /// they say whether what was kept fits. The spare stays as it is.
-    pub fn refresh_from<L: Ledger>(
-        &mut self,
-        alloc: Global,
-        start: &Writes,
-        spare: Option<&Bridges>,
-        steps: &mut Steps<L>,
-    ) -> Result<u64, Memory>
-        requires same { IfSome (option_copied spare) (λ others. units_of others.kept ≡ units_of self.old.kept) }
-        ensures fresh { OnOk result (self.new.kept ≡ FreshTracesFrom start.now self.old.kept) }
-        ensures parts { OnOk result (self.new.parts ≡ FreshPartsFrom start.now self.old.kept) }
-        ensures parts_renewed { OnOk result
-            (self.new.part_flags ≡ PartFlagsFrom start.now self.old.kept self.old.parts) }
-        ensures parts_stay { OnOk result (PartsStay self.old.parts self.new.parts self.new.part_flags) }
-        ensures parts_same { OnOk result ((i : ℕ) → slice_get self.new.renewed i ≡ Some false
-            → slice_get self.new.parts i ≡ slice_get self.old.parts i) }
-        ensures renewed { OnOk result
-            (self.new.renewed ≡ reached_from (beginning_with start.now) self.old.kept self.old.parts) }
-        ensures charge { IfOk result (λ n. n
-            ≡ ChargeFrom start.now self.old.kept self.old.parts (spares_of (option_copied spare.entry))) }
-        ensures counted { IfOk result (λ n. steps.new ≡ steps.old + n) }
-        ensures most { IfOk result (λ n. n ≤ MOST_VIEW_STEPS) }
-        ensures units { units_of self.new.kept ≡ units_of self.old.kept }
-        ensures sources { self.new.sources ≡ self.old.sources }
-        ensures stays { (i : ℕ) → slice_get self.new.renewed i ≡ Some false
-            → slice_get self.new.kept i ≡ slice_get self.old.kept i }
-        ensures refused { OnErr result ((n : ℕ) × (self.new.kept
-            ≡ take n (FreshTracesFrom start.now self.old.kept) ++ drop n self.old.kept)
-            × (self.new.parts ≡ take n (FreshPartsFrom start.now self.old.kept) ++ drop n self.old.parts)) }
-        ensures strays { OnOk result (self.new.strays ≡ []) }
-        ensures strays_stay { OnErr result (self.new.strays ≡ self.old.strays) }
-    {
-        opener_law();
-        opened_cost_law();
-        self.refresh_by(alloc, start, spare, &Closed, false, steps)
-    }
-
-    /// The same where tags have the shells that the opener tells: these are gone into, so that what stands inside are
-    /// parts. What the trees of their layers came to is kept as well.
-    ///
-    /// A paragraph of the body is charged its parts and the trees of its layers that neither what is kept holds nor the
-    /// spare, and one for each node of what the layers' names are set to by these trees, whatever is kept of the whole.
-    /// So another refresh with this opener, at which names have the same, is charged nothing for layers. A paragraph is
-    /// reached also where its parts aren't those that were kept, as after a refresh with another opener.
-    pub fn refresh_with<O: Opener, L: Ledger>(
-        &mut self,
-        alloc: Global,
-        start: &Writes,
-        spare: Option<&Bridges>,
-        opener: &O,
-        steps: &mut Steps<L>,
-    ) -> Result<u64, Memory>
-        requires same { IfSome (option_copied spare) (λ others. units_of others.kept ≡ units_of self.old.kept) }
-        ensures fresh { OnOk result (self.new.kept ≡ FreshTracesFrom start.now self.old.kept) }
-        ensures parts { OnOk result
-            (self.new.parts ≡ FreshPartsBy start.now (shells_by (O.opens opener.now)) self.old.kept) }
-        ensures parts_renewed { OnOk result (self.new.part_flags
-            ≡ PartFlagsBy start.now (shells_by (O.opens opener.now)) self.old.kept self.old.parts) }
-        ensures parts_stay { OnOk result (PartsStay self.old.parts self.new.parts self.new.part_flags) }
-        ensures parts_same { OnOk result ((i : ℕ) → slice_get self.new.renewed i ≡ Some false
-            → slice_get self.new.parts i ≡ slice_get self.old.parts i) }
-        ensures renewed { OnOk result (self.new.renewed ≡ reached_by_from (shells_by (O.opens opener.now))
-            (beginning_with start.now) self.old.kept self.old.parts) }
-        ensures charge { IfOk result (λ n. n ≡ ChargeBy start.now (shells_by (O.opens opener.now)) self.old.kept
-            self.old.parts self.old.layers (spares_of (option_copied spare.entry))) }
-        ensures layers { OnOk result
-            (KnowsLayers start.now (shells_by (O.opens opener.now)) self.old.kept self.new.layers) }
-        ensures counted { IfOk result (λ n. steps.new ≡ steps.old + n) }
-        ensures most { IfOk result (λ n. n ≤ MOST_VIEW_STEPS) }
-        ensures units { units_of self.new.kept ≡ units_of self.old.kept }
-        ensures sources { self.new.sources ≡ self.old.sources }
-        ensures stays { (i : ℕ) → slice_get self.new.renewed i ≡ Some false
-            → slice_get self.new.kept i ≡ slice_get self.old.kept i }
-        ensures refused { OnErr result ((n : ℕ) × (self.new.kept
-            ≡ take n (FreshTracesFrom start.now self.old.kept) ++ drop n self.old.kept)
-            × (self.new.parts ≡ take n (FreshPartsBy start.now (shells_by (O.opens opener.now)) self.old.kept)
-            ++ drop n self.old.parts)
-            × (drop n self.new.layers ≡ drop n self.old.layers)) }
-        ensures strays { OnOk result (self.new.strays ≡ []) }
-        ensures strays_stay { OnErr result (self.new.strays ≡ self.old.strays) }
-    {
-        self.refresh_by(alloc, start, spare, opener, true, steps)
-    }
-
-    // The same. Where it isn't `shelled`, the opener opens nothing.
-    #[tactic(auto, unfolding(crate::specs::Names::FreshTracesFrom, crate::specs::Names::FreshPartsBy))]
-    fn refresh_by<O: Opener, L: Ledger>(
-        &mut self,
-        alloc: Global,
-        start: &Writes,
-        spare: Option<&Bridges>,
-        opener: &O,
-        shelled: bool,
-        steps: &mut Steps<L>,
-    ) -> Result<u64, Memory>
-        requires same { IfSome (option_copied spare) (λ others. units_of others.kept ≡ units_of self.old.kept) }
-        requires shut { shelled ≡ false → O.opens opener.now ≡ opens_nothing }
-        ensures fresh { OnOk result (self.new.kept ≡ FreshTracesFrom start.now self.old.kept) }
-        ensures parts { OnOk result
-            (self.new.parts ≡ FreshPartsBy start.now (shells_by (O.opens opener.now)) self.old.kept) }
-        ensures parts_renewed { OnOk result (self.new.part_flags
-            ≡ PartFlagsBy start.now (shells_by (O.opens opener.now)) self.old.kept self.old.parts) }
-        ensures parts_stay { OnOk result (PartsStay self.old.parts self.new.parts self.new.part_flags) }
-        ensures parts_same { OnOk result ((i : ℕ) → slice_get self.new.renewed i ≡ Some false
-            → slice_get self.new.parts i ≡ slice_get self.old.parts i) }
-        ensures renewed { OnOk result (self.new.renewed ≡ reached_by_from (shells_by (O.opens opener.now))
-            (beginning_with start.now) self.old.kept self.old.parts) }
-        ensures charge { IfOk result (λ n. n ≡ ChargeBy start.now (shells_by (O.opens opener.now)) self.old.kept
-            self.old.parts self.old.layers (spares_of (option_copied spare.entry))) }
-        ensures layers { OnOk result
-            (KnowsLayers start.now (shells_by (O.opens opener.now)) self.old.kept self.new.layers) }
-        ensures counted { IfOk result (λ n. steps.new ≡ steps.old + n) }
-        ensures most { IfOk result (λ n. n ≤ MOST_VIEW_STEPS) }
-        ensures units { units_of self.new.kept ≡ units_of self.old.kept }
-        ensures sources { self.new.sources ≡ self.old.sources }
-        ensures stays { (i : ℕ) → slice_get self.new.renewed i ≡ Some false
-            → slice_get self.new.kept i ≡ slice_get self.old.kept i }
-        ensures refused { OnErr result ((n : ℕ) × (self.new.kept
-            ≡ take n (FreshTracesFrom start.now self.old.kept) ++ drop n self.old.kept)
-            × (self.new.parts ≡ take n (FreshPartsBy start.now (shells_by (O.opens opener.now)) self.old.kept)
-            ++ drop n self.old.parts)
-            × (drop n self.new.layers ≡ drop n self.old.layers)) }
-        ensures strays { OnOk result (self.new.strays ≡ []) }
-        ensures strays_stay { OnErr result (self.new.strays ≡ self.old.strays) }
-    {
-        trace_laws();
-        opener_law();
-        opened_standing_law();
-        opened_fitting_law();
-        let lent = lent_bridges(spare);
-        let bare = start.pairs().is_empty();
-        let moment = Moment::beginning_with(alloc, start)?;
-        let settled = mem::replace(&mut self.settled, false) && bare;
-        let charges = refresh_all(
-            alloc,
-            &mut self.bridges,
-            moment,
-            settled,
-            opener,
-            shelled,
-            lent,
-            steps,
-        )?;
-        self.settled = bare;
-        self.strays.clear();
-        Ok(charges)
     }
 
     /// The new units after an edit of a buffer, with what was kept of the old ones that they are. A paragraph of the
@@ -524,6 +221,7 @@ impl Bridges {
         ensures same_trees { OnOk result
             (HaveSameTrees (units_of self.old.kept) units.items self.new.sources) }
         ensures units { OnOk result (units_of self.new.kept ≡ units.items) }
+        ensures end { self.new.end ≡ self.old.end }
         ensures counted { steps.new ≤ steps.old + cost_of mods.now }
         ensures refused { OnErr result (self.new ≡ self.old) }
     {
@@ -604,6 +302,7 @@ impl Bridges {
         ensures same_trees { OnOk result
             (HaveSameTrees (units_of self.old.kept) units.items self.new.sources) }
         ensures units { OnOk result (units_of self.new.kept ≡ units.items) }
+        ensures end { self.new.end ≡ self.old.end }
         ensures refused { OnErr result (self.new ≡ self.old) }
     {
         carried_list_law();
@@ -676,6 +375,7 @@ impl Bridges {
         ensures once { (i j k : ℕ) → slice_get self.new.sources j ≡ Some (Some i)
             → slice_get self.new.sources k ≡ Some (Some i) → j ≡ k }
         ensures layers { self.new.layers ≡ self.old.layers }
+        ensures end { self.new.end ≡ self.old.end }
         ensures numbers { self.new.sources ≡ numbers_but changed 0 (length (units_of self.old.kept)) }
         ensures units { units_of self.new.kept ≡ units_with changed tree (units_of self.old.kept) }
         ensures strays { self.new.strays ≡ StraysBeside changed (units_of self.old.kept) self.old.strays }
@@ -750,12 +450,12 @@ impl Bridges {
 
     /// Behind a refresh, whether the unit was reached when that began. An edit may take this off. Past the last unit it
     /// is false.
-    pub fn renewed(&self, i: u32) -> bool
-        ensures { result ≡ unwrap_or (slice_get self.now.renewed i) false }
+    pub fn reached(&self, i: u32) -> bool
+        ensures { result ≡ unwrap_or (slice_get self.now.reached i) false }
     {
         match self.bridges.get(i as usize) {
             None => false,
-            Some(bridge) => bridge.renewed,
+            Some(bridge) => bridge.reached,
         }
     }
 
@@ -788,20 +488,11 @@ impl Bridges {
         }
     }
 
-    /// The moment behind the last unit, after a refresh: what names have behind all units, and the steps that are left.
-    pub fn end(&self, alloc: Global) -> Result<Moment, Memory>
-        requires fresh { self.now.kept ≡ fresh_from beginning (units_of self.now.kept) }
-        ensures { IfOk result (λ m. m ≡ behind_all beginning (units_of self.now.kept)) }
+    /// What names have behind all units, as the last refresh left it. Before the first one no name has anything. An edit
+    /// leaves it as it is.
+    pub fn end(&self) -> &Env
+        ensures { result.now.map ≡ self.now.end }
     {
-        moment_behind(Moment::beginning(alloc), &self.bridges)
-    }
-
-    /// The same after a refresh from the moment in which these names have been set.
-    pub fn end_from(&self, alloc: Global, start: &Writes) -> Result<Moment, Memory>
-        requires fresh { self.now.kept ≡ fresh_from (beginning_with start.now) (units_of self.now.kept) }
-        ensures { IfOk result (λ m. m ≡ behind_all (beginning_with start.now) (units_of self.now.kept)) }
-    {
-        let start = Moment::beginning_with(alloc, start)?;
-        moment_behind(start, &self.bridges)
+        &self.end
     }
 }

@@ -1,5 +1,5 @@
 // Laws of what calls ask for.
-ghost use Rattle.std.specs.Prelude.{◌≡◌, ℕ, List, [], Some, true, slice_get};
+ghost use Rattle.std.specs.Prelude.{◌≡◌, ◌≤◌, ℕ, List, [], Some, true, slice_get};
 ghost use Rattle.tx_tree.specs.WideTree.{WideTree};
 ghost use Rattle.tx_doc.specs.Buffers.{document_of};
 ghost use Rattle.tx_doc.specs.declared.buffer.Buffer.{Buffer};
@@ -10,14 +10,16 @@ ghost use Rattle.tx_mod.specs.Followed.{changed_by_all, carried_by_all};
 ghost use Rattle.tx_bridge.specs.InPlace.{is_changed};
 ghost use Rattle.tx_exec_form.specs.Evaluated.{WideTrace};
 ghost use Rattle.tx_view_form.specs.Outcomes.{Moment};
-ghost use Rattle.tx_bridge.specs.Entries.{Entry, Kept, outcome_of};
+ghost use Rattle.tx_env.specs.Pairs.{Name};
+ghost use Rattle.tx_bridge.specs.Entries.{Entry, Kept, units_of, outcome_of};
 ghost use Rattle.tx_parts.specs.Opening.{Sheller, no_shells};
 ghost use Rattle.tx_parts.specs.Shellers.{IsSheller};
 ghost use Rattle.tx_parts.specs.LayerCosts.{Holder};
 ghost use Rattle.tx_walk.specs.LayerTraces.{TreeTrace, holds_either};
 ghost use Rattle.tx_bridge.specs.Reached.{can_be_used, unit_stays_by};
 ghost use Rattle.tx_bridge.specs.PartsKept.{fresh_parts, fresh_parts_by};
-ghost use Rattle.tx_bridge.specs.Spares.{UnitSpare};
+ghost use Rattle.tx_bridge.specs.Spares.{UnitSpare, Spares};
+ghost use Rattle.tx_bridge.specs.Names.{ChargeBy, BoundBy};
 ghost use Rattle.tx_bridge.specs.Charges.{layers_charge, charge_by, charge_with, charges_with, charges_from};
 ghost use Rattle.tx_bridge.specs.Charges.{LayersHold, UnitLayersKnown};
 ghost use Rattle.tx_bridge.specs.UnitLists.{AreUnits, HasPathIfBody};
@@ -103,5 +105,18 @@ pub fn staying_law()
     trace_laws();
     opened_fitting_law();
     opened_standing_law();
+    opened_cost_law();
+}
+
+/// A law: what a refresh is charged is no more than the bound. The bound counts for each unit that is over all that it
+/// may take; for a paragraph of the body that is touched the costs of its parts that are reached, and those of all
+/// trees of its layers; for another unit, where nothing of it can be used, its cost. A paragraph is touched where neither
+/// its trace can be used nor the spare's, or where one of its parts isn't held, or a tree of its layers isn't. A part is
+/// reached where it isn't held.
+pub fn bound_law()
+    ensures { (start : List (Name × WideTree)) (sheller : Sheller) → IsSheller sheller → (kept : Kept)
+        (parts : List KeptParts) (layers : List (List TreeTrace)) (spares : Spares) → AreUnits (units_of kept)
+        → ChargeBy start sheller kept parts layers spares ≤ BoundBy start sheller kept parts layers spares }
+{
     opened_cost_law();
 }

@@ -106,6 +106,13 @@ impl Moment {
         &self.env
     }
 
+    // What names have, of a moment that is done with.
+    pub(crate) fn into_env(self) -> Env
+        ensures { result.map ≡ self.env }
+    {
+        self.env
+    }
+
     /// The steps that are left.
     pub fn left(&self) -> u64
         ensures { result ≡ self.now.left }

@@ -91,7 +91,7 @@ fn are_marked<L: Ledger>(
         match (bridges.outcome(i), fresh.outcome(i)) {
             (None, None) => return Some(u64::from(i) == u64::from(BASE) + marks.len() as u64),
             (Some(one), Some(other)) => {
-                if !alike(alloc, one, other, steps)? || bridges.renewed(i) != marked {
+                if !alike(alloc, one, other, steps)? || bridges.reached(i) != marked {
                     return Some(false);
                 }
             }

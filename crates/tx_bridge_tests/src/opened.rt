@@ -218,7 +218,7 @@ fn units_told(alloc: Global, bridges: &Bridges) -> Option<String> {
         if i > BASE {
             text.push(' ').ok()?;
         }
-        text.push(if bridges.renewed(i) { 'x' } else { '.' }).ok()?;
+        text.push(if bridges.reached(i) { 'x' } else { '.' }).ok()?;
         push_parts(&mut text, parts)?;
     }
     None

@@ -128,16 +128,16 @@ were_laid width (f ∷ fs) (d ∷ old) (e ∷ new) (ks ∷ olds) (ls ∷ news) [
     still stays = absurd (omega (arith, marks))
 
 pub behind_evaluation : (width : ℕ) (old new : Bridged) (xs ys : List Shown) → AreLaid width old.kept old.parts xs
-    → units_of new.kept ≡ units_of old.kept → new.renewed ≡ reached_from beginning old.kept old.parts
+    → units_of new.kept ≡ units_of old.kept → new.reached ≡ reached_from beginning old.kept old.parts
     → new.parts ≡ fresh_parts_from beginning (units_of old.kept)
-    → new.part_flags ≡ part_flags_from beginning old.kept old.parts → Stay new.renewed old.kept new.kept
-    → SameParts new.renewed old.parts new.parts → PartsStay old.parts new.parts new.part_flags
-    → ys ≡ without new.renewed xs → WereLaid width new.kept new.parts new.part_flags ys
+    → new.part_flags ≡ part_flags_from beginning old.kept old.parts → Stay new.reached old.kept new.kept
+    → SameParts new.reached old.parts new.parts → PartsStay old.parts new.parts new.part_flags
+    → ys ≡ without new.reached xs → WereLaid width new.kept new.parts new.part_flags ys
 behind_evaluation width old new xs ys h same reached parts marks stay still stays is =
     let many : length xs ≡ length old.kept = laid_many width old.kept old.parts xs h in
     let units : length (units_of old.kept) ≡ length old.kept = length-map old.kept (λ (k : Entry). k.unit) in
     subst (λ (zs : List Shown). WereLaid width new.kept new.parts new.part_flags zs) (sym is)
-    (were_laid width new.renewed old.kept new.kept old.parts new.parts new.part_flags xs h same
+    (were_laid width new.reached old.kept new.kept old.parts new.parts new.part_flags xs h same
     (omega (arith, many, ap length reached, reached_many beginning old.kept old.parts))
     (omega (arith, many, same_many old.kept new.kept same))
     (omega (arith, many, units, ap length parts, fresh_many beginning (units_of old.kept)))

@@ -149,21 +149,21 @@ many_without (f ∷ fs) [] = refl
 many_without (f ∷ fs) (x ∷ xs) = ap suc (many_without fs xs)
 
 pub left_laid : (old new : Bridged) (xs ys : List Shown) → length xs ≡ length old.kept
-    → units_of new.kept ≡ units_of old.kept → length new.renewed ≡ length new.kept
-    → Stay new.renewed old.kept new.kept → ys ≡ without new.renewed xs
+    → units_of new.kept ≡ units_of old.kept → length new.reached ≡ length new.kept
+    → Stay new.reached old.kept new.kept → ys ≡ without new.reached xs
     → StayLaid (view_stores_in old xs) (view_stores_in new ys)
 left_laid old new xs ys many same flags stay is i =
-    by (flag_laid new.renewed xs i
+    by (flag_laid new.reached xs i
     (omega (arith, many, flags, ap length same, many_units new.kept, many_units old.kept)))
   where
-    by : (slice_get (laid_in (without new.renewed xs)) i ≡ Some None)
-        ⊎ ((slice_get (laid_in (without new.renewed xs)) i ≡ slice_get (laid_in xs) i)
-        × (slice_get new.renewed i ≡ Some false) ⊎ (length xs ≤ i))
+    by : (slice_get (laid_in (without new.reached xs)) i ≡ Some None)
+        ⊎ ((slice_get (laid_in (without new.reached xs)) i ≡ slice_get (laid_in xs) i)
+        × (slice_get new.reached i ≡ Some false) ⊎ (length xs ≤ i))
         → HasUnitOf (view_stores_in new ys) (view_stores_in old xs) i ⊎ (slice_get (laid_in ys) i ≡ Some None)
     by (inl e) = inr (ap (λ zs. slice_get (laid_in zs) i) is ∙ e)
     by (inr (inl p)) =
         inl (record { kept = stay i p.1; laid = ap (λ zs. slice_get (laid_in zs) i) is ∙ p.0 })
-    by (inr (inr le)) = inl (past_all old new xs ys i many (ap length is ∙ many_without new.renewed xs) same le)
+    by (inr (inr le)) = inl (past_all old new xs ys i many (ap length is ∙ many_without new.reached xs) same le)
 
 -- ---- some are laid out
 

@@ -69,12 +69,12 @@ relaid_is old new olds flags marks xs ys e p f g =
 not_equal : (k i : ℕ) → (k ≡ i → ⊥) → k == i ≡ false
 not_equal k i h = false_from_ne_true (k == i) (λ e. absurd (h ((Decides-eqb k i).0 e)))
 
-pub alone_next : (lone i : ℕ) (flags : List Bool) (alone next renewed : Bool)
+pub alone_next : (lone i : ℕ) (flags : List Bool) (alone next reached : Bool)
     → (alone ≡ true → (k : ℕ) → k < i → (k ≡ lone → ⊥) → unwrap_or (slice_get flags k) false ≡ false)
-    → (next ≡ true → alone ≡ true) → (next ≡ true → i == lone ≡ false → renewed ≡ false)
-    → renewed ≡ unwrap_or (slice_get flags i) false
+    → (next ≡ true → alone ≡ true) → (next ≡ true → i == lone ≡ false → reached ≡ false)
+    → reached ≡ unwrap_or (slice_get flags i) false
     → next ≡ true → (k : ℕ) → k < i + 1 → (k ≡ lone → ⊥) → unwrap_or (slice_get flags k) false ≡ false
-alone_next lone i flags alone next renewed before on here is = λ yes k less other.
+alone_next lone i flags alone next reached before on here is = λ yes k less other.
     elim (cases_lt k i) [
       | inl early ↦ before (on yes) k early other
       | inr late ↦

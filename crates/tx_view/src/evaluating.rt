@@ -21,23 +21,23 @@ use tx_bridge::Bridges;
 use tx_unit_layout::Shown;
 
 // Nothing is laid out, where this is true.
-fn forget(shown: &mut Shown, renewed: bool)
-    ensures { shown.new ≡ unlaid renewed shown.old }
+fn forget(shown: &mut Shown, reached: bool)
+    ensures { shown.new ≡ unlaid reached shown.old }
 {
-    if renewed {
+    if reached {
         shown.laid = None;
     }
 }
 
-// Whether still none but the lone unit was renewed, where `alone` says it of the units before this one.
-fn still_alone(alone: bool, renewed: bool, is_lone: bool) -> bool
+// Whether still none but the lone unit was reached, where `alone` says it of the units before this one.
+fn still_alone(alone: bool, reached: bool, is_lone: bool) -> bool
     ensures before { IsTrue result → alone ≡ true }
-    ensures here { IsTrue result → is_lone ≡ false → renewed ≡ false }
+    ensures here { IsTrue result → is_lone ≡ false → reached ≡ false }
 {
     if is_lone {
         return alone;
     }
-    if renewed {
+    if reached {
         return false;
     }
     alone
@@ -45,17 +45,17 @@ fn still_alone(alone: bool, renewed: bool, is_lone: bool) -> bool
 
 // What was laid out of units that were evaluated anew isn't theirs any more. If it answers true, none but number `lone`
 // was.
-fn forget_renewed(units: &mut [Shown], bridges: &Bridges, lone: usize) -> bool
+fn forget_reached(units: &mut [Shown], bridges: &Bridges, lone: usize) -> bool
     requires few { length units.old < 2 ^ 32 }
-    ensures shown { units.new ≡ without bridges.now.renewed units.old }
+    ensures shown { units.new ≡ without bridges.now.reached units.old }
     ensures alone { IsTrue result → (k : ℕ) → k < length units.old → (k ≡ lone → ⊥)
-        → unwrap_or (slice_get bridges.now.renewed k) false ≡ false }
+        → unwrap_or (slice_get bridges.now.reached k) false ≡ false }
 {
     let mut alone = true;
     for i in 0..units.len() {
-        let renewed = bridges.renewed(i as u32);
-        forget(&mut units[i], renewed);
-        alone = still_alone(alone, renewed, i == lone);
+        let reached = bridges.reached(i as u32);
+        forget(&mut units[i], reached);
+        alone = still_alone(alone, reached, i == lone);
     }
     alone
 }
@@ -104,13 +104,13 @@ pub(crate) fn evaluate<L: Ledger>(
     requires as_many { length units.old ≡ length bridges.old.kept }
     ensures kept { OnOk result (bridges.new.kept ≡ fresh_from beginning (units_of bridges.old.kept)) }
     ensures parts { OnOk result (bridges.new.parts ≡ fresh_parts_from beginning (units_of bridges.old.kept)) }
-    ensures renewed { OnOk result (bridges.new.renewed ≡ reached_from beginning bridges.old.kept bridges.old.parts) }
-    ensures shown { OnOk result (units.new ≡ without bridges.new.renewed units.old) }
+    ensures reached { OnOk result (bridges.new.reached ≡ reached_from beginning bridges.old.kept bridges.old.parts) }
+    ensures shown { OnOk result (units.new ≡ without bridges.new.reached units.old) }
     ensures charge { IfOk result (λ p. p.0 ≡ Charge bridges.old.kept bridges.old.parts) }
     ensures counted { IfOk result (λ p. steps.new ≡ steps.old + p.0) }
     ensures most { IfOk result (λ p. p.0 ≤ MOST_VIEW_STEPS) }
     ensures alone { IfOk result (λ p. p.1 ≡ true
-        → IsAlone lone (length units.old) bridges.old.kept bridges.new.kept bridges.new.renewed) }
+        → IsAlone lone (length units.old) bridges.old.kept bridges.new.kept bridges.new.reached) }
     ensures left { OnOk result
         (StayLaid (view_stores_in bridges.old units.old) (view_stores_in bridges.new units.new)) }
     ensures refused { OnErr result (IsPartlyFresh (view_stores_in bridges.old units.old)
@@ -129,7 +129,7 @@ pub(crate) fn evaluate<L: Ledger>(
 {
     match bridges.refresh(alloc, steps) {
         Ok(charges) => {
-            let alone = forget_renewed(units, bridges, lone);
+            let alone = forget_reached(units, bridges, lone);
             Ok((charges, alone))
         }
         Err(memory) => {

@@ -11,14 +11,14 @@ use Rattle.tx_view.proofs.evaluating.evaluate.Goals as goal
 pub returns-in-Ok-clause-laid : goal.returns-in-Ok-clause-laid
 unfolding FreshParts PartFlags
 returns-in-Ok-clause-laid g c width h =
-    behind_evaluation width c.args.bridges.now c.refresh.new.self c.args.units.now c.forget_renewed-alone.new.units h
-    c.in-Ok.ensures.units c.in-Ok.ensures.renewed c.in-Ok.ensures.parts c.in-Ok.ensures.parts_renewed
-    c.in-Ok.ensures.stays c.in-Ok.ensures.parts_same c.in-Ok.ensures.parts_stay c.forget_renewed-alone.ensures.shown
+    behind_evaluation width c.args.bridges.now c.refresh.new.self c.args.units.now c.forget_reached-alone.new.units h
+    c.in-Ok.ensures.units c.in-Ok.ensures.reached c.in-Ok.ensures.parts c.in-Ok.ensures.parts_renewed
+    c.in-Ok.ensures.stays c.in-Ok.ensures.parts_same c.in-Ok.ensures.parts_stay c.forget_reached-alone.ensures.shown
 
 pub returns-in-Ok-clause-readable : goal.returns-in-Ok-clause-readable
 returns-in-Ok-clause-readable g c h =
-    subst AllReadable (sym c.forget_renewed-alone.ensures.shown)
-    (readable_without c.refresh.new.self.renewed c.args.units.now h)
+    subst AllReadable (sym c.forget_reached-alone.ensures.shown)
+    (readable_without c.refresh.new.self.reached c.args.units.now h)
 
 pub returns-in-Err-clause-dropped : goal.returns-in-Err-clause-dropped
 unfolding FreshParts
@@ -39,16 +39,16 @@ pub returns-in-Ok-clause-alone : goal.returns-in-Ok-clause-alone
 returns-in-Ok-clause-alone g c = λ yes.
     alone_is c.args.lone (length c.args.units.now) c.args.bridges.now.kept c.refresh.new.self.kept
     c.args.bridges.now.parts
-    c.refresh.new.self.renewed c.in-Ok.ensures.renewed c.in-Ok.ensures.units c.in-Ok.ensures.stays
-    (c.forget_renewed-alone.ensures.alone yes)
+    c.refresh.new.self.reached c.in-Ok.ensures.reached c.in-Ok.ensures.units c.in-Ok.ensures.stays
+    (c.forget_reached-alone.ensures.alone yes)
 
 pub returns-in-Ok-clause-left : goal.returns-in-Ok-clause-left
 returns-in-Ok-clause-left g c =
-    let many : length c.refresh.new.self.renewed ≡ length c.refresh.new.self.kept =
-    ap length c.in-Ok.ensures.renewed ∙ reached_many beginning c.args.bridges.now.kept c.args.bridges.now.parts
+    let many : length c.refresh.new.self.reached ≡ length c.refresh.new.self.kept =
+    ap length c.in-Ok.ensures.reached ∙ reached_many beginning c.args.bridges.now.kept c.args.bridges.now.parts
     ∙ same_many c.args.bridges.now.kept c.refresh.new.self.kept c.in-Ok.ensures.units in
-    left_laid c.args.bridges.now c.refresh.new.self c.args.units.now c.forget_renewed-alone.new.units
-    c.requires.as_many c.in-Ok.ensures.units many c.in-Ok.ensures.stays c.forget_renewed-alone.ensures.shown
+    left_laid c.args.bridges.now c.refresh.new.self c.args.units.now c.forget_reached-alone.new.units
+    c.requires.as_many c.in-Ok.ensures.units many c.in-Ok.ensures.stays c.forget_reached-alone.ensures.shown
 
 pub returns-in-Err-clause-refused : goal.returns-in-Err-clause-refused
 unfolding FreshTraces FreshParts

@@ -32,8 +32,8 @@ returns-clause-work g c =
     ≡ items_relaid_from beginning c.args.bridges.now.kept c.args.bridges.now.parts (laid_in c.args.units.now)
     (laid_parts_in c.args.units.now) =
     relaid_is c.args.bridges.now.kept c.evaluate.new.bridges.kept c.args.bridges.now.parts
-    c.evaluate.new.bridges.renewed c.evaluate.new.bridges.part_flags c.args.units.now c.evaluate.new.units
-    c.in_ok-charges.ensures.renewed c.in_ok-charges.ensures.flags c.in_ok-charges.ensures.units
+    c.evaluate.new.bridges.reached c.evaluate.new.bridges.part_flags c.args.units.now c.evaluate.new.units
+    c.in_ok-charges.ensures.reached c.in_ok-charges.ensures.flags c.in_ok-charges.ensures.units
     c.in_ok-charges.ensures.shown in
     omega (arith, relaid, c.in_ok-charges.ensures.charge, c.in_ok-items.ensures.items)
 

@@ -54,7 +54,7 @@ lay_if-requires-clause-fresh g c =
 
 pub lay_if-requires-clause-nothing_laid : goal.lay_if-requires-clause-nothing_laid
 lay_if-requires-clause-nothing_laid g c = λ quiet.
-    (ready_is c.args.lone.now.unit c.args.bridges.now.kept c.evaluate.new.bridges.kept c.evaluate.new.bridges.renewed
+    (ready_is c.args.lone.now.unit c.args.bridges.now.kept c.evaluate.new.bridges.kept c.evaluate.new.bridges.reached
     c.args.units.now c.evaluate.new.units c.args.lone.now.attrs (c.is_alone_quietly-quiet.ensures.quiet quiet)
     c.requires.lone (c.in_ok-charges.ensures.alone (c.is_alone_quietly-quiet.ensures.alone quiet))
     (laid_many c.args.width c.args.bridges.now.kept c.args.bridges.now.parts c.args.units.now c.requires.laid)
@@ -64,7 +64,7 @@ lay_if-requires-clause-nothing_laid g c = λ quiet.
 
 pub lay_if-requires-clause-attributes : goal.lay_if-requires-clause-attributes
 lay_if-requires-clause-attributes g c = λ quiet.
-    (ready_is c.args.lone.now.unit c.args.bridges.now.kept c.evaluate.new.bridges.kept c.evaluate.new.bridges.renewed
+    (ready_is c.args.lone.now.unit c.args.bridges.now.kept c.evaluate.new.bridges.kept c.evaluate.new.bridges.reached
     c.args.units.now c.evaluate.new.units c.args.lone.now.attrs (c.is_alone_quietly-quiet.ensures.quiet quiet)
     c.requires.lone (c.in_ok-charges.ensures.alone (c.is_alone_quietly-quiet.ensures.alone quiet))
     (laid_many c.args.width c.args.bridges.now.kept c.args.bridges.now.parts c.args.units.now c.requires.laid)
@@ -92,7 +92,7 @@ returns-then-alike-clause-pages g c = λ _.
     (c.in_ok-items.ensures.quiet c.if-alike.true)) in
     subst (λ (xs : List Shown). KeepPages c.args.lone.now xs c.lay_if.new.units)
     (c.in_ok-charges.ensures.shown
-    ∙ without_alone c.args.lone.now.unit c.evaluate.new.bridges.renewed c.args.units.now alone.no_flag
+    ∙ without_alone c.args.lone.now.unit c.evaluate.new.bridges.reached c.args.units.now alone.no_flag
     c.requires.lone.nothing_laid) (c.in_ok-items.ensures.pages c.if-alike.true)
 
 pub returns-then-alike-clause-work : goal.returns-then-alike-clause-work
@@ -103,8 +103,8 @@ returns-then-alike-clause-work g c =
     ≡ items_relaid_from beginning c.args.bridges.now.kept c.args.bridges.now.parts (laid_in c.args.units.now)
     (laid_parts_in c.args.units.now) =
     relaid_is c.args.bridges.now.kept c.evaluate.new.bridges.kept c.args.bridges.now.parts
-    c.evaluate.new.bridges.renewed c.evaluate.new.bridges.part_flags c.args.units.now c.evaluate.new.units
-    c.in_ok-charges.ensures.renewed c.in_ok-charges.ensures.flags c.in_ok-charges.ensures.units
+    c.evaluate.new.bridges.reached c.evaluate.new.bridges.part_flags c.args.units.now c.evaluate.new.units
+    c.in_ok-charges.ensures.reached c.in_ok-charges.ensures.flags c.in_ok-charges.ensures.units
     c.in_ok-charges.ensures.shown in
     omega (
       arith,
@@ -123,8 +123,8 @@ returns-clause-work g c =
     ≡ items_relaid_from beginning c.args.bridges.now.kept c.args.bridges.now.parts (laid_in c.args.units.now)
     (laid_parts_in c.args.units.now) =
     relaid_is c.args.bridges.now.kept c.evaluate.new.bridges.kept c.args.bridges.now.parts
-    c.evaluate.new.bridges.renewed c.evaluate.new.bridges.part_flags c.args.units.now c.evaluate.new.units
-    c.in_ok-charges.ensures.renewed c.in_ok-charges.ensures.flags c.in_ok-charges.ensures.units
+    c.evaluate.new.bridges.reached c.evaluate.new.bridges.part_flags c.args.units.now c.evaluate.new.units
+    c.in_ok-charges.ensures.reached c.in_ok-charges.ensures.flags c.in_ok-charges.ensures.units
     c.in_ok-charges.ensures.shown in
     omega (
       arith,

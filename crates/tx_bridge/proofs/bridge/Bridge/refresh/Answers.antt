@@ -9,7 +9,7 @@ use Rattle.tx_bridge.specs.HeldParts.{kept_parts}
 use Rattle.tx_bridge.specs.Lent.{spare_of}
 use Rattle.tx_bridge.specs.declared.bridge.Bridge.{Bridge}
 use Rattle.tx_bridge.proofs.ByParts.{spent_most}
-use Rattle.tx_bridge.proofs.Left.{off_is, left_parts, left_flags_by, left_renewed, left_charge, left_known}
+use Rattle.tx_bridge.proofs.Left.{off_is, left_parts, left_flags_by, left_reached, left_charge, left_known}
 use Rattle.tx_bridge.proofs.Marked.{left_sound, unmarked_kept}
 use Rattle.tx_bridge.proofs.Used.{fits_is, charge_fits}
 use Rattle.tx_bridge.proofs.bridge.Bridge.refresh.Goals as goal
@@ -48,10 +48,10 @@ returns-then-keeps_parts-clause-flags g c =
     (sym c.keeps_parts.ensures ∙ c.if-keeps_parts.true))
     c.trace_laws.ensures.agrees c.leave.new.self.parts (ap (λ (b : Bridge). b.parts) c.leave.ensures)
 
-pub returns-then-keeps_parts-clause-renewed : goal.returns-then-keeps_parts-clause-renewed
-returns-then-keeps_parts-clause-renewed g c =
-    ap (λ (b : Bridge). b.renewed) c.leave.ensures
-    ∙ left_renewed c.args.moment.now c.args.self.now c.requires.sound
+pub returns-then-keeps_parts-clause-reached : goal.returns-then-keeps_parts-clause-reached
+returns-then-keeps_parts-clause-reached g c =
+    ap (λ (b : Bridge). b.reached) c.leave.ensures
+    ∙ left_reached c.args.moment.now c.args.self.now c.requires.sound
     (shells_by (g.O.Opener.opens c.args.opener.now)) c.args.shelled
     (λ off. ap shells_by (c.requires.shut off) ∙ c.opener_law.ensures.nothing_opened)
     (sym c.can_be_used-used.ensures ∙ c.if-used.true)

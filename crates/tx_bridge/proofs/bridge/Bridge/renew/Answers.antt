@@ -2,7 +2,7 @@ use Rattle.std.proofs.Common.{not}
 use Rattle.tx_exec.specs.Outcomes.{wide_outcome}
 use Rattle.tx_parts.specs.Opening.{shells_by}
 use Rattle.tx_bridge.specs.HeldParts.{kept_parts}
-use Rattle.tx_bridge.proofs.Staying.{renewed_is, same_kept, same_parts_kept}
+use Rattle.tx_bridge.proofs.Staying.{reached_is, same_kept, same_parts_kept}
 use Rattle.tx_bridge.proofs.Used.{sound_with}
 use Rattle.tx_bridge.proofs.bridge.Bridge.renew.Goals as goal
 
@@ -14,9 +14,9 @@ returns-clause-sound g c =
     c.in_ok-evaluated.ensures.exact c.in_ok-evaluated.ensures.once c.requires.sound.placed
     c.in_ok-evaluated.ensures.hold
 
-pub returns-clause-renewed : goal.returns-clause-renewed
-returns-clause-renewed g c =
-    renewed_is (shells_by (g.O.Opener.opens c.args.opener.now)) c.args.moment.now c.args.self.now
+pub returns-clause-reached : goal.returns-clause-reached
+returns-clause-reached g c =
+    reached_is (shells_by (g.O.Opener.opens c.args.opener.now)) c.args.moment.now c.args.self.now
     c.in_ok-evaluated.evaluated.parts c.all-own.result.now c.all-parts.result.now c.args.used c.stays_kept-stays.result
     c.requires.sound c.requires.used c.requires.bare c.in_ok-evaluated.ensures.parts c.in_ok-evaluated.ensures.flags
     c.all-own.ensures c.all-parts.ensures c.stays_kept-stays.ensures
@@ -27,7 +27,7 @@ returns-clause-stays g c down =
     (shells_by (g.O.Opener.opens c.args.opener.now))
     (c.opener_law.ensures.sheller (g.O.Opener.opens c.args.opener.now) (g.met.O.Opener.sound c.args.opener.now))
     c.args.moment.now c.args.self.now c.requires.sound (not c.stays_kept-stays.result)
-    (renewed_is (shells_by (g.O.Opener.opens c.args.opener.now)) c.args.moment.now c.args.self.now
+    (reached_is (shells_by (g.O.Opener.opens c.args.opener.now)) c.args.moment.now c.args.self.now
     c.in_ok-evaluated.evaluated.parts c.all-own.result.now c.all-parts.result.now c.args.used c.stays_kept-stays.result
     c.requires.sound c.requires.used c.requires.bare c.in_ok-evaluated.ensures.parts c.in_ok-evaluated.ensures.flags
     c.all-own.ensures c.all-parts.ensures c.stays_kept-stays.ensures) down
@@ -39,7 +39,7 @@ returns-clause-parts_same g c down =
     c.opened_fitting_law.ensures.all_traced (shells_by (g.O.Opener.opens c.args.opener.now))
     (c.opener_law.ensures.sheller (g.O.Opener.opens c.args.opener.now) (g.met.O.Opener.sound c.args.opener.now))
     c.args.moment.now c.args.self.now c.requires.sound (not c.stays_kept-stays.result)
-    (renewed_is (shells_by (g.O.Opener.opens c.args.opener.now)) c.args.moment.now c.args.self.now
+    (reached_is (shells_by (g.O.Opener.opens c.args.opener.now)) c.args.moment.now c.args.self.now
     c.in_ok-evaluated.evaluated.parts c.all-own.result.now c.all-parts.result.now c.args.used c.stays_kept-stays.result
     c.requires.sound c.requires.used c.requires.bare c.in_ok-evaluated.ensures.parts c.in_ok-evaluated.ensures.flags
     c.all-own.ensures c.all-parts.ensures c.stays_kept-stays.ensures) down

@@ -3,8 +3,8 @@ use Rattle.std.specs.Prelude.{IfOk, OnOk, OnErr}
 use Rattle.tx_view_form.specs.Outcomes.{beginning}
 use Rattle.tx_bridge.specs.Moments.{beginning_with}
 use Rattle.tx_bridge.specs.Reached.{reached_from}
-use Rattle.tx_bridge.specs.Names.{FreshTraces, FreshParts, PartFlags, Charge}
-use Rattle.tx_bridge.specs.Names.{FreshTracesFrom, FreshPartsFrom, PartFlagsFrom, ChargeFrom}
+use Rattle.tx_bridge.specs.Names.{FreshTraces, FreshParts, PartFlags, Charge, End}
+use Rattle.tx_bridge.specs.Names.{FreshTracesFrom, FreshPartsFrom, PartFlagsFrom, ChargeFrom, EndFrom}
 use Rattle.tx_bridge.proofs.Spared.{nothing_charged}
 use Rattle.tx_bridge.proofs.bridges.Bridges.refresh.Goals as goal
 
@@ -27,11 +27,11 @@ returns-clause-parts_renewed g c =
     (c.refresh_from.new.self.part_flags ≡ PartFlagsFrom ps c.args.self.now.kept c.args.self.now.parts))
     (c.new-none.ensures ∙ c.new.ensures.items) c.refresh_from.ensures.parts_renewed
 
-pub returns-clause-renewed : goal.returns-clause-renewed
-returns-clause-renewed g c =
-    subst (λ ps. OnOk c.refresh_from.result (c.refresh_from.new.self.renewed
+pub returns-clause-reached : goal.returns-clause-reached
+returns-clause-reached g c =
+    subst (λ ps. OnOk c.refresh_from.result (c.refresh_from.new.self.reached
     ≡ reached_from (beginning_with ps) c.args.self.now.kept c.args.self.now.parts))
-    (c.new-none.ensures ∙ c.new.ensures.items) c.refresh_from.ensures.renewed
+    (c.new-none.ensures ∙ c.new.ensures.items) c.refresh_from.ensures.reached
 
 pub returns-clause-charge : goal.returns-clause-charge
 unfolding Charge ChargeFrom
@@ -50,3 +50,9 @@ returns-clause-refused g c =
     × (c.refresh_from.new.self.parts
     ≡ take n (FreshPartsFrom ps c.args.self.now.kept) ++ drop n c.args.self.now.parts)))
     (c.new-none.ensures ∙ c.new.ensures.items) c.refresh_from.ensures.refused
+
+pub returns-clause-end : goal.returns-clause-end
+unfolding End EndFrom
+returns-clause-end g c =
+    subst (λ ps. OnOk c.refresh_from.result (c.refresh_from.new.self.end ≡ EndFrom ps c.args.self.now.kept))
+    (c.new-none.ensures ∙ c.new.ensures.items) c.refresh_from.ensures.end

@@ -5,11 +5,11 @@ use Rattle.std.specs.List.{All}
 use Rattle.tx_bridge.specs.Bridged.{Bridged}
 use Rattle.tx_bridge.specs.Moments.{beginning_with}
 use Rattle.tx_parts.specs.Opening.{shells_by}
-use Rattle.tx_bridge.specs.Names.{FreshTracesFrom, FreshPartsBy, PartFlagsBy, ChargeBy, KnowsLayers}
+use Rattle.tx_bridge.specs.Names.{FreshTracesFrom, FreshPartsBy, PartFlagsBy, ChargeBy, KnowsLayers, EndFrom}
 use Rattle.tx_bridge.specs.Charges.{charges_by, AllLayersKnown}
 use Rattle.tx_bridge.specs.Reached.{reached_by_from}
 use Rattle.tx_bridge.specs.Lent.{spares_in}
-use Rattle.tx_bridge.specs.Entries.{units_of}
+use Rattle.tx_bridge.specs.Entries.{units_of, behind_all}
 use Rattle.tx_bridge.specs.UnitLists.{AreUnits}
 use Rattle.tx_bridge.specs.PartsKept.{part_flags_by_from}
 use Rattle.tx_bridge.specs.HeldParts.{kept_parts}
@@ -179,12 +179,12 @@ returns-clause-layers g c =
     (ap (λ bs. units_of (entries_of bs)) c.deref_mut.ensures.value ∙ ap (λ b. units_of b.kept) c.self.view_is)
     c.in_ok-charges.ensures.layers))
 
-pub returns-clause-renewed : goal.returns-clause-renewed
-returns-clause-renewed g c =
+pub returns-clause-reached : goal.returns-clause-reached
+returns-clause-reached g c =
     let whole : take c.self.inside.bridges.len (c.refresh_all.new.bridges
     ++ drop (length c.refresh_all.new.bridges) c.self.inside.bridges.items) ≡ c.refresh_all.new.bridges =
     grind (arith, common_steps) in
-    ap flags_of whole ∙ c.in_ok-charges.ensures.renewed
+    ap flags_of whole ∙ c.in_ok-charges.ensures.reached
     ∙ ap (λ m. reached_by_from (shells_by (g.O.Opener.opens c.args.opener.now)) m (entries_of c.deref_mut.result.now)
     (stored_parts_in c.deref_mut.result.now)) c.in_ok-moment.ensures
     ∙ ap (λ es. reached_by_from (shells_by (g.O.Opener.opens c.args.opener.now)) (beginning_with c.args.start.now) es
@@ -193,3 +193,11 @@ returns-clause-renewed g c =
     ∙ ap (reached_by_from (shells_by (g.O.Opener.opens c.args.opener.now)) (beginning_with c.args.start.now)
     c.args.self.now.kept)
     (ap stored_parts_in c.deref_mut.ensures.value ∙ ap (λ b. b.parts) c.self.view_is)
+
+pub returns-clause-end : goal.returns-clause-end
+unfolding EndFrom
+returns-clause-end g c =
+    c.into_env.ensures ∙ ap (λ m. m.env) c.in_ok-charges.ensures.behind
+    ∙ ap (λ m. (behind_all m (units_of (entries_of c.deref_mut.result.now))).env) c.in_ok-moment.ensures
+    ∙ ap (λ es. (behind_all (beginning_with c.args.start.now) (units_of es)).env)
+    (ap entries_of c.deref_mut.ensures.value ∙ ap (λ b. b.kept) c.self.view_is)

@@ -23,11 +23,11 @@ returns-clause-parts_renewed g c =
     ≡ PartFlagsBy c.args.start.now s c.args.self.now.kept c.args.self.now.parts))
     c.opener_law.ensures.nothing_opened c.refresh_by.ensures.parts_renewed
 
-pub returns-clause-renewed : goal.returns-clause-renewed
-returns-clause-renewed g c =
-    subst (λ s. OnOk c.refresh_by.result (c.refresh_by.new.self.renewed
+pub returns-clause-reached : goal.returns-clause-reached
+returns-clause-reached g c =
+    subst (λ s. OnOk c.refresh_by.result (c.refresh_by.new.self.reached
     ≡ reached_by_from s (beginning_with c.args.start.now) c.args.self.now.kept c.args.self.now.parts))
-    c.opener_law.ensures.nothing_opened c.refresh_by.ensures.renewed
+    c.opener_law.ensures.nothing_opened c.refresh_by.ensures.reached
 
 pub returns-clause-charge : goal.returns-clause-charge
 unfolding ChargeFrom ChargeBy

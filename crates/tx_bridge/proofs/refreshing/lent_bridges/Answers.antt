@@ -3,7 +3,7 @@ use Rattle.std.specs.Prelude.{option_copied}
 use Rattle.tx_bridge.specs.Sound.{entries_of, stored_parts_in, layers_in}
 use Rattle.tx_bridge.specs.Spares.{spares_of}
 use Rattle.tx_bridge.proofs.Lending.{all_lent}
-use Rattle.tx_bridge.proofs.bridges.lent_bridges.Goals as goal
+use Rattle.tx_bridge.proofs.refreshing.lent_bridges.Goals as goal
 
 pub returns-in-Some-clause-spares : goal.returns-in-Some-clause-spares
 returns-in-Some-clause-spares c =

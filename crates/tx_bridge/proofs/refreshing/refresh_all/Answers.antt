@@ -10,12 +10,12 @@ use Rattle.tx_bridge.specs.Lent.{spares_in, IsSpareOf}
 use Rattle.tx_bridge.proofs.Lending.{charged, first_lent, lent_here}
 use Rattle.tx_bridge.proofs.Partway.{next, next_is, stops, agrees_next, units_next, sources_next, stays_next, any_err}
 use Rattle.tx_bridge.proofs.Partway.{ended}
-use Rattle.tx_bridge.proofs.bridges.refresh_all.Goals as goal
+use Rattle.tx_bridge.proofs.refreshing.refresh_all.Goals as goal
 
 pub refresh-requires-clause-settled : goal.refresh-requires-clause-settled
 refresh-requires-clause-settled g c =
     agrees_next (shells_by (g.O.Opener.opens c.args.opener.now)) c.args.bridges.now c.loop-i.bridges
-    (spares_in c.args.spare.now) c.args.start c.loop-i.i
+    (spares_in c.args.spare.now) c.args.moment.now c.loop-i.i
     c.loop-i.moment
     c.loop-i.still c.args.steps.now c.loop-i.steps c.loop-i.charges c.loop-i.invariant (omega arith)
     c.index-bridges-i.result
@@ -26,7 +26,7 @@ refresh-requires-clause-spare g c =
     (sym c.lent_at-other.ensures)
     (lent_here c.args.spare.now c.args.bridges.now c.loop-i.i _ _ c.requires.spare c.requires.same
     (next_is (shells_by (g.O.Opener.opens c.args.opener.now)) c.args.bridges.now c.loop-i.bridges
-    (spares_in c.args.spare.now) c.args.start c.loop-i.i
+    (spares_in c.args.spare.now) c.args.moment.now c.loop-i.i
     c.loop-i.moment
     c.loop-i.still c.args.steps.now c.loop-i.steps c.loop-i.charges c.loop-i.invariant (omega arith)
     c.index-bridges-i.result))
@@ -35,7 +35,7 @@ pub loop-i-preserved : goal.loop-i-preserved
 loop-i-preserved g c =
     let b : Bridge = slice_index_or c.loop-i.bridges c.loop-i.i c.index-bridges-i.result in
     next (shells_by (g.O.Opener.opens c.args.opener.now)) c.args.bridges.now c.loop-i.bridges
-    (spares_in c.args.spare.now) c.args.start c.loop-i.i
+    (spares_in c.args.spare.now) c.args.moment.now c.loop-i.i
     c.loop-i.moment
     c.loop-i.still c.args.steps.now c.loop-i.steps c.loop-i.charges c.loop-i.invariant (omega arith)
     c.index-bridges-i.result c.refresh.new.self
@@ -45,7 +45,7 @@ loop-i-preserved g c =
       fresh = c.in_ok-charge.ensures.fresh;
       parts = c.in_ok-charge.ensures.parts;
     })
-    c.in_ok-charge.ensures.flags c.in_ok-charge.ensures.renewed c.in_ok-charge.ensures.behind
+    c.in_ok-charge.ensures.flags c.in_ok-charge.ensures.reached c.in_ok-charge.ensures.behind
     (charged (shells_by (g.O.Opener.opens c.args.opener.now)) c.loop-i.moment (kept_unit b) (kept_parts b.parts)
     b.layers
     (option_copied c.lent_at-other.result)
@@ -65,7 +65,7 @@ returns-in_err-charge-clause-sound g c =
 pub returns-in_err-charge-clause-units : goal.returns-in_err-charge-clause-units
 returns-in_err-charge-clause-units g c =
     units_next (shells_by (g.O.Opener.opens c.args.opener.now)) c.args.bridges.now c.loop-i.bridges
-    (spares_in c.args.spare.now) c.args.start c.loop-i.i
+    (spares_in c.args.spare.now) c.args.moment.now c.loop-i.i
     c.loop-i.moment
     c.loop-i.still c.args.steps.now c.loop-i.steps c.loop-i.charges c.loop-i.invariant (omega arith)
     c.index-bridges-i.result c.refresh.new.self
@@ -74,7 +74,7 @@ returns-in_err-charge-clause-units g c =
 pub returns-in_err-charge-clause-sources : goal.returns-in_err-charge-clause-sources
 returns-in_err-charge-clause-sources g c =
     sources_next (shells_by (g.O.Opener.opens c.args.opener.now)) c.args.bridges.now c.loop-i.bridges
-    (spares_in c.args.spare.now) c.args.start c.loop-i.i
+    (spares_in c.args.spare.now) c.args.moment.now c.loop-i.i
     c.loop-i.moment
     c.loop-i.still c.args.steps.now c.loop-i.steps c.loop-i.charges c.loop-i.invariant (omega arith)
     c.index-bridges-i.result c.refresh.new.self
@@ -83,7 +83,7 @@ returns-in_err-charge-clause-sources g c =
 pub returns-in_err-charge-clause-stays : goal.returns-in_err-charge-clause-stays
 returns-in_err-charge-clause-stays g c =
     stays_next (shells_by (g.O.Opener.opens c.args.opener.now)) c.args.bridges.now c.loop-i.bridges
-    (spares_in c.args.spare.now) c.args.start c.loop-i.i
+    (spares_in c.args.spare.now) c.args.moment.now c.loop-i.i
     c.loop-i.moment
     c.loop-i.still c.args.steps.now c.loop-i.steps c.loop-i.charges c.loop-i.invariant (omega arith)
     c.index-bridges-i.result c.refresh.new.self
@@ -93,7 +93,7 @@ pub returns-in_err-charge-clause-refused : goal.returns-in_err-charge-clause-ref
 returns-in_err-charge-clause-refused g c =
     any_err c.from_residual.result
     (stops (shells_by (g.O.Opener.opens c.args.opener.now)) c.args.bridges.now c.loop-i.bridges
-    (spares_in c.args.spare.now) c.args.start c.loop-i.i
+    (spares_in c.args.spare.now) c.args.moment.now c.loop-i.i
     c.loop-i.moment
     c.loop-i.still c.args.steps.now c.loop-i.steps c.loop-i.charges c.loop-i.invariant (omega arith)
     c.index-bridges-i.result c.refresh.new.self
@@ -102,5 +102,11 @@ returns-in_err-charge-clause-refused g c =
 pub returns-clause-layers : goal.returns-clause-layers
 returns-clause-layers g c =
     (ended (shells_by (g.O.Opener.opens c.args.opener.now)) c.args.bridges.now c.loop-i.bridges
-    (spares_in c.args.spare.now) c.args.start c.loop-i.i c.loop-i.moment c.loop-i.still c.args.steps.now
+    (spares_in c.args.spare.now) c.args.moment.now c.loop-i.i c.loop-i.moment c.loop-i.still c.args.steps.now
     c.loop-i.steps c.loop-i.charges c.loop-i.invariant (omega arith)).5
+
+pub returns-clause-behind : goal.returns-clause-behind
+returns-clause-behind g c =
+    (ended (shells_by (g.O.Opener.opens c.args.opener.now)) c.args.bridges.now c.loop-i.bridges
+    (spares_in c.args.spare.now) c.args.moment.now c.loop-i.i c.loop-i.moment c.loop-i.still c.args.steps.now
+    c.loop-i.steps c.loop-i.charges c.loop-i.invariant (omega arith)).6
