@@ -18,7 +18,7 @@ pub fn recomposition_law()
     ensures over { (sheller : Sheller) → IsSheller sheller → (k c : ℕ) (path : List ℕ) (t : WideTree) (e : Before)
         (rest : List Stored) → evaluates k c t e ≡ None →
         recomposed_by sheller k c t e (map stored_part (parts_by sheller k c path t e) ++ rest) ≡ None }
-    ensures no_shells { (k c : ℕ) (path : List ℕ) (t : WideTree) (e : Before) (trace : WideTrace) (rest : List Stored) →
+    ensures closed { (k c : ℕ) (path : List ℕ) (t : WideTree) (e : Before) (trace : WideTrace) (rest : List Stored) →
         evaluates k c t e ≡ Some trace →
         recomposed_by no_shells k c t e (map stored_part (parts k c path t e) ++ rest) ≡ Some (trace, rest) }
 {}

@@ -26,7 +26,7 @@ ghost use Rattle.tx_parts.specs.Standing.{StandsIn};
 /// the tag's evaluation looks them up. An opener may open nothing.
 pub fn opener_law()
     ensures sheller { (opener : Opener) → IsOpener opener → IsSheller (shells_by opener) }
-    ensures no_shells { IsSheller no_shells }
+    ensures closed { IsSheller no_shells }
     ensures nothing { IsOpener opens_nothing }
     ensures nothing_opened { shells_by opens_nothing ≡ no_shells }
 {}
