@@ -7,5 +7,5 @@ pub returns : goal.returns
 returns c = record {
   whole = whole_recomposed;
   over = over_recomposed;
-  no_shells = whole_recomposed no_shells closed_is;
+  closed = whole_recomposed no_shells closed_is;
 }
