@@ -346,7 +346,7 @@ impl Bridges {
     }
 
     /// What `carry` does where the unit of number `changed`, which `one_changed` tells, has this tree afterwards, and
-    /// each other one stays as it is. `moved` are the parts that `moved_parts` tells. Strays whose trees hold that
+    /// each other one stays as it is. `moved` are the parts that `moved_parts` tells. So strays whose trees hold that
     /// unit's go, and the others stay. It goes over no lists but that of that unit's parts and that of strays, and
     /// takes no memory.
     pub fn carry_in_place(
@@ -368,7 +368,11 @@ impl Bridges {
         requires strays { StandAside before.now self.old.strays }
         ensures carried { self.new.kept ≡ CarryTraces 0 mods.now before.now self.old.kept
             (units_with changed tree (units_of self.old.kept)) }
-        ensures parts { self.new.parts
+        ensures parts { self.new.parts ≡ CarryParts self.old.parts
+            (PartMoves 0 mods.now before.now (units_of self.old.kept) self.old.parts
+            (kept_strays self.old.strays) (units_with changed tree (units_of self.old.kept)))
+            self.new.sources }
+        ensures within { self.new.parts
             ≡ CarryWithin changed mods.now before.now (units_of self.old.kept) self.old.parts }
         ensures sources { self.new.sources ≡ Sources 0 mods.now before.now (units_of self.old.kept)
             (units_with changed tree (units_of self.old.kept)) }
@@ -378,7 +382,11 @@ impl Bridges {
         ensures end { self.new.end ≡ self.old.end }
         ensures numbers { self.new.sources ≡ numbers_but changed 0 (length (units_of self.old.kept)) }
         ensures units { units_of self.new.kept ≡ units_with changed tree (units_of self.old.kept) }
-        ensures strays { self.new.strays ≡ StraysBeside changed (units_of self.old.kept) self.old.strays }
+        ensures strays { kept_strays self.new.strays ≡ CarryStrays
+            (PartMoves 0 mods.now before.now (units_of self.old.kept) self.old.parts
+            (kept_strays self.old.strays) (units_with changed tree (units_of self.old.kept)))
+            (length (units_with changed tree (units_of self.old.kept))) }
+        ensures beside { self.new.strays ≡ StraysBeside changed (units_of self.old.kept) self.old.strays }
         ensures stand { (u : WideTree) → changed_by_all mods.now before.now ≡ Some u
             → StandAside u self.new.strays }
     {

@@ -38,17 +38,17 @@ exchanged_in (suc buffer) ms t us = None
 abbrev pub exchanged : ℕ → List Mod → WideTree → List DocUnit → Option ℕ
 exchanged buffer ms t us = option_and_then (λ u. exchanged_in buffer ms u us) (changed_by_all ms t)
 
--- What stays of what is kept of the parts of the units us, where the new ones are vs, and are these old ones: where one
--- paragraph is found to change alone, those of its parts that stay in it, and all of the others. Else all of those that
--- stay, and parts of another old unit go to the new ones in which they stand.
+-- What stays of what is kept of the parts of the units us, where the new ones are vs, and are these old ones, said by
+-- the way that an edit takes: where one paragraph is found to change alone, those of its parts that stay in it, and all
+-- of the others. Else all of those that stay, and parts of another old unit go to the new ones in which they stand.
 abbrev pub parts_after : ℕ → List Mod → WideTree → List DocUnit → List KeptParts → KeptParts → List DocUnit
     → List (Option ℕ) → List KeptParts
 parts_after buffer ms t us pss strays vs ss =
     option_map_or (λ i. CarryWithin i ms t us pss) (exchanged buffer ms t us)
     (CarryParts pss (PartMoves buffer ms t us pss strays vs) ss)
 
--- What is kept then of parts that stand in no unit, of which this was kept: where one paragraph is found to change
--- alone, of those that its path isn't below. Else of all that stand in no new unit.
+-- What is kept then of parts that stand in no unit, of which this was kept, said so as well: where one paragraph is
+-- found to change alone, of those that its path isn't below. Else of all that stand in no new unit.
 abbrev pub strays_after : ℕ → List Mod → WideTree → List DocUnit → List KeptParts → KeptParts → List DocUnit → KeptParts
 strays_after buffer ms t us pss strays vs =
     option_map_or (λ i. filter (λ k. is_beside (path_at i us) k.path) strays) (exchanged buffer ms t us)

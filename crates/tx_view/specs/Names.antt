@@ -10,8 +10,8 @@ use Rattle.tx_bridge.specs.Carrying.{had}
 use Rattle.tx_bridge.specs.Entries.{units_of, nothing_kept}
 use Rattle.tx_bridge.specs.Sound.{AllHold}
 use Rattle.tx_bridge.specs.HeldParts.{AllPartsHold, StoredAllHold}
-use Rattle.tx_bridge.specs.Names.{Charge, Sources, CarryTraces as CarryKept}
-use Rattle.tx_view.specs.Exchanged.{parts_after, strays_after, laid_parts_after, laid_strays_after}
+use Rattle.tx_bridge.specs.Names.{Charge, Sources, CarryTraces as CarryKept, CarryParts, CarryStrays, PartMoves}
+use Rattle.tx_view.specs.Exchanged.{laid_parts_after, laid_strays_after}
 use Rattle.tx_view.specs.Costs.{items_relaid_from}
 use Rattle.tx_view.specs.Stores.{ViewStores, fresh_stores, IsOfKeptPart, AllLaidAreKept}
 
@@ -42,13 +42,15 @@ unfoldable pub Carry : ℕ → List Mod → List Buffer → ViewStores → List 
 Carry buffer ms old s new = record {
   kept = CarryKept buffer ms (tree_of old buffer) s.kept (units new);
   parts =
-      parts_after buffer ms (tree_of old buffer) (units_of s.kept) s.parts s.strays (units new)
+      CarryParts s.parts (PartMoves buffer ms (tree_of old buffer) (units_of s.kept) s.parts s.strays (units new))
       (Sources buffer ms (tree_of old buffer) (units_of s.kept) (units new));
   laid = map (had s.laid) (Sources buffer ms (tree_of old buffer) (units_of s.kept) (units new));
   laid_parts =
       laid_parts_after buffer ms (tree_of old buffer) (units_of s.kept) s.parts s.strays s.laid_parts s.laid_strays
       (units new) (Sources buffer ms (tree_of old buffer) (units_of s.kept) (units new));
-  strays = strays_after buffer ms (tree_of old buffer) (units_of s.kept) s.parts s.strays (units new);
+  strays =
+      CarryStrays (PartMoves buffer ms (tree_of old buffer) (units_of s.kept) s.parts s.strays (units new))
+      (length (units new));
   laid_strays =
       laid_strays_after buffer ms (tree_of old buffer) (units_of s.kept) s.parts s.strays s.laid_parts s.laid_strays
       (units new);

@@ -467,10 +467,16 @@ fn carried_kept<L: Ledger>(
     ensures silent { IfOk result (λ to. SetNoName bridges.old.kept to) }
     ensures kept { OnOk result (bridges.new.kept
         ≡ CarryTraces buffer mods.now (tree_of buffers.now buffer) bridges.old.kept (units after.now)) }
-    ensures parts { OnOk result (bridges.new.parts ≡ parts_after buffer mods.now (tree_of buffers.now buffer)
+    ensures parts { OnOk result (bridges.new.parts ≡ CarryParts bridges.old.parts
+        (PartMoves buffer mods.now (tree_of buffers.now buffer) (units_of bridges.old.kept) bridges.old.parts
+        (kept_strays bridges.old.strays) (units after.now)) bridges.new.sources) }
+    ensures strays { OnOk result (kept_strays bridges.new.strays ≡ CarryStrays
+        (PartMoves buffer mods.now (tree_of buffers.now buffer) (units_of bridges.old.kept) bridges.old.parts
+        (kept_strays bridges.old.strays) (units after.now)) (length (units after.now))) }
+    ensures within { OnOk result (bridges.new.parts ≡ parts_after buffer mods.now (tree_of buffers.now buffer)
         (units_of bridges.old.kept) bridges.old.parts (kept_strays bridges.old.strays) (units after.now)
         bridges.new.sources) }
-    ensures strays { OnOk result (kept_strays bridges.new.strays ≡ strays_after buffer mods.now
+    ensures beside { OnOk result (kept_strays bridges.new.strays ≡ strays_after buffer mods.now
         (tree_of buffers.now buffer) (units_of bridges.old.kept) bridges.old.parts (kept_strays bridges.old.strays)
         (units after.now)) }
     ensures aside { OnOk result (StandAside (document_of after.now) bridges.new.strays) }
@@ -538,10 +544,17 @@ pub(crate) fn carried<L: Ledger>(
     ensures kept { OnOk result (bridges.new.kept ≡ CarryTraces buffer mods.now (tree_of buffers.now buffer)
         bridges.old.kept
         (units (with_tree buffers.now buffer tree.now))) }
-    ensures parts { OnOk result (bridges.new.parts ≡ parts_after buffer mods.now (tree_of buffers.now buffer)
+    ensures parts { OnOk result (bridges.new.parts ≡ CarryParts bridges.old.parts
+        (PartMoves buffer mods.now (tree_of buffers.now buffer) (units_of bridges.old.kept) bridges.old.parts
+        (kept_strays bridges.old.strays) (units (with_tree buffers.now buffer tree.now))) bridges.new.sources) }
+    ensures strays { OnOk result (kept_strays bridges.new.strays ≡ CarryStrays
+        (PartMoves buffer mods.now (tree_of buffers.now buffer) (units_of bridges.old.kept) bridges.old.parts
+        (kept_strays bridges.old.strays) (units (with_tree buffers.now buffer tree.now))) (length (units (with_tree
+            buffers.now buffer tree.now)))) }
+    ensures within { OnOk result (bridges.new.parts ≡ parts_after buffer mods.now (tree_of buffers.now buffer)
         (units_of bridges.old.kept) bridges.old.parts (kept_strays bridges.old.strays)
         (units (with_tree buffers.now buffer tree.now)) bridges.new.sources) }
-    ensures strays { OnOk result (kept_strays bridges.new.strays ≡ strays_after buffer mods.now
+    ensures beside { OnOk result (kept_strays bridges.new.strays ≡ strays_after buffer mods.now
         (tree_of buffers.now buffer) (units_of bridges.old.kept) bridges.old.parts (kept_strays bridges.old.strays)
         (units (with_tree buffers.now buffer tree.now))) }
     ensures aside { OnOk result

@@ -11,7 +11,7 @@ use Rattle.tx_units.specs.Units.{units}
 use Rattle.tx_walk.specs.declared.part.Part.{Part as DonePart}
 use Rattle.tx_bridge.specs.Entries.{units_of}
 use Rattle.tx_bridge.specs.MovedParts.{moves_of}
-use Rattle.tx_bridge.specs.Names.{CarryTraces, CarryStrays, PartMoves, Sources}
+use Rattle.tx_bridge.specs.Names.{CarryTraces, CarryParts, CarryStrays, PartMoves, Sources}
 use Rattle.tx_bridge.specs.PartsKept.{KeptParts}
 use Rattle.tx_bridge.specs.Strays.{StandAside, is_beside, kept_strays, path_at}
 use Rattle.tx_unit_layout.specs.declared.shown.Shown.{Shown}
@@ -72,15 +72,15 @@ returns-in_ok-parts-in-Some-clause-left g c =
       c.keep_beside.ensures,
     )
 
-pub returns-in_ok-parts-in-Some-clause-strays : goal.returns-in_ok-parts-in-Some-clause-strays
-returns-in_ok-parts-in-Some-clause-strays g c =
+pub returns-in_ok-parts-in-Some-clause-beside : goal.returns-in_ok-parts-in-Some-clause-beside
+returns-in_ok-parts-in-Some-clause-beside g c =
     let us : List DocUnit = units_of c.args.bridges.now.kept in
     let ks : KeptParts = kept_strays c.args.bridges.now.strays in
     let t : WideTree = tree_of c.args.buffers.now c.args.buffer in
     let found : exchanged c.args.buffer c.args.mods.now t us ≡ Some c.in-Some.changed =
     ap (option_and_then (λ u. exchanged_in c.args.buffer c.args.mods.now u us)) c.requires.changed
     ∙ (rw c.in-Some.is at c.in_ok-changed.ensures).1 in
-    ap kept_strays c.carry_in_place.ensures.strays ∙ kept_beside c.in-Some.changed us c.args.bridges.now.strays
+    ap kept_strays c.carry_in_place.ensures.beside ∙ kept_beside c.in-Some.changed us c.args.bridges.now.strays
     ∙ ap (λ o. option_map_or (λ i. filter (λ k. is_beside (path_at i us) k.path) ks) o
     (CarryStrays (PartMoves c.args.buffer c.args.mods.now t us c.args.bridges.now.parts ks (units c.args.after.now))
     (length (units c.args.after.now)))) (sym found)
@@ -203,3 +203,57 @@ returns-in_ok-carried_anew-in-None-clause-way g c =
           ∙ rw c.in-None.is at c.in_ok-changed.ensures,
       c.in_ok-carried_anew-in-None.ensures.same_trees,
     )
+
+pub returns-in_ok-parts-in-Some-clause-parts : goal.returns-in_ok-parts-in-Some-clause-parts
+returns-in_ok-parts-in-Some-clause-parts g c =
+    let h : IsExchanged c.in-Some.changed c.args.buffer c.args.mods.now c.args.tree.now c.in-Some.paragraph
+    (units_of c.args.bridges.now.kept) = (rw c.in-Some.is at c.in_ok-changed.ensures).0 in
+    c.carry_in_place.ensures.parts
+    ∙ ap (λ vs. CarryParts c.args.bridges.now.parts (PartMoves 0 c.args.mods.now
+    (slice_index_or c.args.buffers.now c.args.buffer c.index-buffers-buffer.result).tree
+    (units_of c.args.bridges.now.kept) c.args.bridges.now.parts (kept_strays c.args.bridges.now.strays) vs)
+    c.carry_in_place.new.self.sources)
+    (sym c.carry_in_place.ensures.units ∙ returns-in_ok-parts-in-Some-clause-units g c)
+    ∙ ap (λ t. CarryParts c.args.bridges.now.parts (PartMoves 0 c.args.mods.now t (units_of c.args.bridges.now.kept)
+    c.args.bridges.now.parts (kept_strays c.args.bridges.now.strays) (units c.args.after.now))
+    c.carry_in_place.new.self.sources)
+    (sym (tree_at c.args.buffers.now c.args.buffer c.index-buffers-buffer.result c.requires.within))
+    ∙ ap (λ n. CarryParts c.args.bridges.now.parts (PartMoves n c.args.mods.now
+    (tree_of c.args.buffers.now c.args.buffer) (units_of c.args.bridges.now.kept) c.args.bridges.now.parts
+    (kept_strays c.args.bridges.now.strays) (units c.args.after.now)) c.carry_in_place.new.self.sources)
+    (sym h.one.document)
+
+pub returns-in_ok-parts-in-Some-clause-strays : goal.returns-in_ok-parts-in-Some-clause-strays
+returns-in_ok-parts-in-Some-clause-strays g c =
+    let h : IsExchanged c.in-Some.changed c.args.buffer c.args.mods.now c.args.tree.now c.in-Some.paragraph
+    (units_of c.args.bridges.now.kept) = (rw c.in-Some.is at c.in_ok-changed.ensures).0 in
+    c.carry_in_place.ensures.strays
+    ∙ ap (λ vs. CarryStrays (PartMoves 0 c.args.mods.now
+    (slice_index_or c.args.buffers.now c.args.buffer c.index-buffers-buffer.result).tree
+    (units_of c.args.bridges.now.kept) c.args.bridges.now.parts (kept_strays c.args.bridges.now.strays) vs)
+    (length vs))
+    (sym c.carry_in_place.ensures.units ∙ returns-in_ok-parts-in-Some-clause-units g c)
+    ∙ ap (λ t. CarryStrays (PartMoves 0 c.args.mods.now t (units_of c.args.bridges.now.kept)
+    c.args.bridges.now.parts (kept_strays c.args.bridges.now.strays) (units c.args.after.now))
+    (length (units c.args.after.now)))
+    (sym (tree_at c.args.buffers.now c.args.buffer c.index-buffers-buffer.result c.requires.within))
+    ∙ ap (λ n. CarryStrays (PartMoves n c.args.mods.now
+    (tree_of c.args.buffers.now c.args.buffer) (units_of c.args.bridges.now.kept) c.args.bridges.now.parts
+    (kept_strays c.args.bridges.now.strays) (units c.args.after.now)) (length (units c.args.after.now)))
+    (sym h.one.document)
+
+pub returns-in_ok-carried_anew-in-None-clause-parts : goal.returns-in_ok-carried_anew-in-None-clause-parts
+returns-in_ok-carried_anew-in-None-clause-parts g c =
+    c.in_ok-carried_anew-in-None.ensures.parts
+    ∙ ap (λ t. CarryParts c.args.bridges.now.parts (PartMoves c.args.buffer c.args.mods.now t
+    (units_of c.args.bridges.now.kept) c.args.bridges.now.parts (kept_strays c.args.bridges.now.strays)
+    (units c.args.after.now)) c.carried_anew.new.bridges.sources)
+    (sym (tree_at c.args.buffers.now c.args.buffer c.index-buffers-buffer.result c.requires.within))
+
+pub returns-in_ok-carried_anew-in-None-clause-strays : goal.returns-in_ok-carried_anew-in-None-clause-strays
+returns-in_ok-carried_anew-in-None-clause-strays g c =
+    c.in_ok-carried_anew-in-None.ensures.strays
+    ∙ ap (λ t. CarryStrays (PartMoves c.args.buffer c.args.mods.now t
+    (units_of c.args.bridges.now.kept) c.args.bridges.now.parts (kept_strays c.args.bridges.now.strays)
+    (units c.args.after.now)) (length (units c.args.after.now)))
+    (sym (tree_at c.args.buffers.now c.args.buffer c.index-buffers-buffer.result c.requires.within))

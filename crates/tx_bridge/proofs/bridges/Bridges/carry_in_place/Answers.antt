@@ -3,10 +3,12 @@ use Rattle.std.proofs.lemmas.Grind.{common_steps}
 use Rattle.std.specs.Prelude.{slice_get}
 use Rattle.tx_units.specs.Units.{units_with}
 use Rattle.tx_bridge.specs.Entries.{units_of}
-use Rattle.tx_bridge.specs.Names.{CarryTraces, CarryWithin, Sources, StraysBeside}
+use Rattle.tx_bridge.specs.Names.{CarryTraces, CarryWithin, CarryParts, PartMoves, Sources, StraysBeside}
 use Rattle.tx_bridge.specs.Others.{put_from, done_parts_of}
 use Rattle.tx_bridge.specs.Sound.{entries_of, stored_parts_in, layers_in}
-use Rattle.tx_bridge.specs.Strays.{AreStrays, AreTidy, StandAside, is_beside, strays_in}
+use Rattle.tx_bridge.specs.Strays.{AreStrays, AreTidy, StandAside, is_beside, strays_in, kept_strays}
+use Rattle.tx_bridge.proofs.Arrived.{parts_hold_all}
+use Rattle.tx_bridge.proofs.CarriedInPlace.{parts_in_place, strays_in_place}
 use Rattle.tx_bridge.proofs.Aside.{strays_seen, are_beside, beside_seen, tidy_beside, stay_beside, stand_beside}
 use Rattle.tx_bridge.proofs.Changing.{in_place, is_within, changed_right, layers_changed}
 use Rattle.tx_bridge.proofs.ChangedParts.{moved_hold, parts_moved, now_is}
@@ -51,9 +53,9 @@ invariant_of-self c =
     (λ h. subst AreTidy (sym c.keep_beside.ensures)
     (tidy_beside c.index.result.now.unit.path c.self.inside.strays.items h))
 
-pub returns-clause-strays : goal.returns-clause-strays
+pub returns-clause-beside : goal.returns-clause-beside
 unfolding StraysBeside
-returns-clause-strays c =
+returns-clause-beside c =
     stay_beside c.args.changed c.args.mods.now c.self.inside.bridges.items c.args.self.now.kept
     c.self.inside.strays.items c.keep_beside.new.strays.items c.args.self.now.strays c.index.result.now
     (ap (λ b. b.kept) c.self.view_is) (ap (λ b. b.strays) c.self.view_is) c.requires.changed c.index.ensures
@@ -85,9 +87,9 @@ returns-clause-carried c =
     c.self.inside.bridges.items c.requires.applies c.self.invariant.sound c.args.self.now.kept _
     (ap (λ b. b.kept) c.self.view_is) c.requires.units c.requires.changed now).entries
 
-pub returns-clause-parts : goal.returns-clause-parts
+pub returns-clause-within : goal.returns-clause-within
 unfolding CarryWithin
-returns-clause-parts c =
+returns-clause-within c =
     let whole : take c.self.inside.bridges.len (c.change_one-silent.new.bridges
     ++ drop (length c.change_one-silent.new.bridges) c.self.inside.bridges.items) ≡ c.change_one-silent.new.bridges =
     grind (arith, common_steps) in
@@ -159,3 +161,29 @@ returns-clause-units c =
     (put_from 0 c.args.moved.items (done_parts_of c.args.changed c.self.inside.bridges.items))
     c.self.inside.bridges.items c.requires.applies c.self.invariant.sound c.args.self.now.kept _
     (ap (λ b. b.kept) c.self.view_is) c.requires.units c.requires.changed now).units
+
+pub returns-clause-parts : goal.returns-clause-parts
+returns-clause-parts c =
+    returns-clause-within c
+    ∙ parts_in_place c.args.changed c.args.mods.now c.args.before.now c.requires.applies.0 c.args.tree
+    c.args.self.now.kept c.args.self.now.parts c.args.self.now.strays c.requires.applies.1 c.requires.units
+    c.requires.changed
+    (parts_hold_all c.self.inside.bridges.items c.args.self.now.kept c.args.self.now.parts
+    (ap (λ b. b.kept) c.self.view_is) (ap (λ b. b.parts) c.self.view_is) c.self.invariant.sound)
+    (strays_seen c.self.inside.bridges.items c.args.self.now.kept c.self.inside.strays.items c.args.self.now.strays
+    (ap (λ b. b.kept) c.self.view_is) (ap (λ b. b.strays) c.self.view_is) c.self.invariant.strays)
+    ∙ ap (CarryParts c.args.self.now.parts
+    (PartMoves 0 c.args.mods.now c.args.before.now (units_of c.args.self.now.kept) c.args.self.now.parts
+    (kept_strays c.args.self.now.strays) (units_with c.args.changed c.args.tree (units_of c.args.self.now.kept))))
+    (sym (returns-clause-sources c))
+
+pub returns-clause-strays : goal.returns-clause-strays
+returns-clause-strays c =
+    ap kept_strays (returns-clause-beside c)
+    ∙ strays_in_place c.args.changed c.args.mods.now c.args.before.now c.requires.applies.0 c.args.tree
+    c.args.self.now.kept c.args.self.now.parts c.args.self.now.strays c.requires.applies.1 c.requires.units
+    c.requires.changed
+    (parts_hold_all c.self.inside.bridges.items c.args.self.now.kept c.args.self.now.parts
+    (ap (λ b. b.kept) c.self.view_is) (ap (λ b. b.parts) c.self.view_is) c.self.invariant.sound)
+    (strays_seen c.self.inside.bridges.items c.args.self.now.kept c.self.inside.strays.items c.args.self.now.strays
+    (ap (λ b. b.kept) c.self.view_is) (ap (λ b. b.strays) c.self.view_is) c.self.invariant.strays)

@@ -5,7 +5,7 @@ use Rattle.tx_doc.specs.declared.buffer.Buffer.{Buffer}
 use Rattle.tx_units.specs.Units.{units}
 use Rattle.tx_bridge.specs.Carrying.{had}
 use Rattle.tx_bridge.specs.Entries.{Kept, units_of}
-use Rattle.tx_bridge.specs.Names.{PartMoves, Sources, CarryTraces as CarryKept}
+use Rattle.tx_bridge.specs.Names.{PartMoves, Sources, CarryTraces as CarryKept, CarryParts, CarryStrays}
 use Rattle.tx_bridge.specs.PartMoves.{Move}
 use Rattle.tx_bridge.specs.PartsKept.{KeptParts}
 use Rattle.tx_bridge.specs.Strays.{StandAside, kept_strays}
@@ -13,7 +13,7 @@ use Rattle.tx_view.specs.declared.paging.Pagination.{Pagination}
 use Rattle.tx_unit_layout.specs.LaidAts.{laid_at}
 use Rattle.tx_unit_layout.specs.declared.shown.Shown.{Shown}
 use Rattle.tx_view.specs.declared.view.View.TheInside.{Inside}
-use Rattle.tx_view.specs.Exchanged.{parts_after, strays_after, laid_parts_after, laid_strays_after}
+use Rattle.tx_view.specs.Exchanged.{laid_parts_after, laid_strays_after}
 use Rattle.tx_view.specs.Laid.{laid_in, laid_parts_in}
 use Rattle.tx_view.specs.Names.{Carry}
 use Rattle.tx_view.specs.WholeViews.{WholeView, whole_of, view_stores_of, all_of}
@@ -48,8 +48,8 @@ invariant_of-self-2 g c =
     c.carried.new.bridges.kept c.self.inside.bridges.parts c.carried.new.bridges.parts strays
     (kept_strays c.carried.new.bridges.strays) olds c.move_shown-former.new.hidden.items c.self.inside.strays
     c.carried.new.strays c.in_ok-after.target ss (units after) was c.outcome-kept.ensures.parts_hold
-    c.outcome-kept.ensures.strays_hold.distinct c.in_ok-after.ensures.kept c.in_ok-after.ensures.parts
-    c.in_ok-after.ensures.strays c.in_ok-after.ensures.sources c.in_ok-after.ensures.target
+    c.outcome-kept.ensures.strays_hold.distinct c.in_ok-after.ensures.kept c.in_ok-after.ensures.within
+    c.in_ok-after.ensures.beside c.in_ok-after.ensures.sources c.in_ok-after.ensures.target
     c.in_ok-after.ensures.way left c.move_shown-former.ensures.moved in
     let many = ap length c.in_ok-after.ensures.buffers ∙ many_with bs c.args.buffer c.args.tree.now
     ∙ ap length c.deref-3.ensures.value in
@@ -102,8 +102,8 @@ returns-clause-ok g c =
     c.carried.new.bridges.kept c.self.inside.bridges.parts c.carried.new.bridges.parts strays
     (kept_strays c.carried.new.bridges.strays) olds c.move_shown-former.new.hidden.items c.self.inside.strays
     c.carried.new.strays c.in_ok-after.target ss (units after) was c.outcome-kept.ensures.parts_hold
-    c.outcome-kept.ensures.strays_hold.distinct c.in_ok-after.ensures.kept c.in_ok-after.ensures.parts
-    c.in_ok-after.ensures.strays c.in_ok-after.ensures.sources c.in_ok-after.ensures.target
+    c.outcome-kept.ensures.strays_hold.distinct c.in_ok-after.ensures.kept c.in_ok-after.ensures.within
+    c.in_ok-after.ensures.beside c.in_ok-after.ensures.sources c.in_ok-after.ensures.target
     c.in_ok-after.ensures.way left c.move_shown-former.ensures.moved in
     let v : Inside = record {
       buffers = c.in_ok-after.after;
@@ -120,16 +120,16 @@ returns-clause-ok g c =
     } in
     let base = stale_view v after
     (CarryKept c.args.buffer c.args.mods.now (tree_of bs c.args.buffer) kept (units after))
-    (parts_after c.args.buffer c.args.mods.now (tree_of bs c.args.buffer) (units_of kept) c.self.inside.bridges.parts
-    strays (units after)
+    (CarryParts c.self.inside.bridges.parts (PartMoves c.args.buffer c.args.mods.now (tree_of bs c.args.buffer)
+    (units_of kept) c.self.inside.bridges.parts strays (units after))
     (Sources c.args.buffer c.args.mods.now (tree_of bs c.args.buffer) (units_of kept) (units after)))
     (map (had (laid_in olds)) (Sources c.args.buffer c.args.mods.now (tree_of bs c.args.buffer) (units_of kept)
     (units after)))
     (laid_parts_after c.args.buffer c.args.mods.now (tree_of bs c.args.buffer) (units_of kept)
     c.self.inside.bridges.parts strays (laid_parts_in olds) (map laid_at c.self.inside.strays) (units after)
     (Sources c.args.buffer c.args.mods.now (tree_of bs c.args.buffer) (units_of kept) (units after)))
-    (strays_after c.args.buffer c.args.mods.now (tree_of bs c.args.buffer) (units_of kept)
-    c.self.inside.bridges.parts strays (units after))
+    (CarryStrays (PartMoves c.args.buffer c.args.mods.now (tree_of bs c.args.buffer) (units_of kept)
+    c.self.inside.bridges.parts strays (units after)) (length (units after)))
     (laid_strays_after c.args.buffer c.args.mods.now (tree_of bs c.args.buffer) (units_of kept)
     c.self.inside.bridges.parts strays (laid_parts_in olds) (map laid_at c.self.inside.strays) (units after)) refl
     c.clear.ensures.items
@@ -137,8 +137,9 @@ returns-clause-ok g c =
     c.in_ok-after.ensures.buffers
     c.in_ok-after.ensures.kept
     (c.in_ok-after.ensures.parts
-    ∙ ap (parts_after c.args.buffer c.args.mods.now (tree_of bs c.args.buffer) (units_of kept)
-    c.self.inside.bridges.parts strays (units after)) c.in_ok-after.ensures.sources) on.attributes on.laid_parts
+    ∙ ap (CarryParts c.self.inside.bridges.parts (PartMoves c.args.buffer c.args.mods.now
+    (tree_of bs c.args.buffer) (units_of kept) c.self.inside.bridges.parts strays (units after)))
+    c.in_ok-after.ensures.sources) on.attributes on.laid_parts
     c.in_ok-after.ensures.strays on.laid_strays in
     base
     ∙ ap (λ (cs : List Buffer). record (whole_of c.self.inside) {
