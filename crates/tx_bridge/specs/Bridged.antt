@@ -54,7 +54,8 @@ coded_Bridged =
     (coded× coded_parts
     (coded× (coded_list (coded_list coded_bool))
     (coded× (coded_list (coded_list coded_TreeTrace))
-    (coded× (coded_list coded_bool) (coded× (coded_list (coded_option coded_ℕ)) (coded× (coded_list coded_Stray) coded_NameMap)))))))
+    (coded× (coded_list coded_bool)
+    (coded× (coded_list (coded_option coded_ℕ)) (coded× (coded_list coded_Stray) coded_NameMap)))))))
     (λ b. (b.kept, (b.parts, (b.part_flags, (b.layers, (b.reached, (b.sources, (b.strays, b.end))))))))
     (λ p. record {
       kept = p.0;

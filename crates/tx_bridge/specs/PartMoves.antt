@@ -90,8 +90,8 @@ moves_aside vs i k [] = []
 moves_aside vs i k (s ∷ ks) = cons_option (move_aside vs i k s) (moves_aside vs i (k + 1) ks)
 
 -- Of all parts of the old units us, and of strays, where vs are the new units, and the modifications of a buffer change
--- its tree t. Those of another buffer than the document move no part of a unit, and leave strays where they are, but for
--- one that would stand in a new unit: it is dropped. There is none where the units of the body are those before.
+-- its tree t. Those of another buffer than the document move no part of a unit, and leave strays where they are, but
+-- for one that would stand in a new unit: it is dropped. There is none where the units of the body are those before.
 abbrev pub part_moves : ℕ → List Mod → WideTree → List DocUnit → List KeptParts → KeptParts → List DocUnit → List Move
 part_moves zero ms t us pss ks vs = moves_from ms t vs 0 us pss ++ moves_below ms t vs (length us) [] 0 ks
 part_moves (suc buffer) ms t us pss ks vs = moves_aside vs (length us) 0 ks

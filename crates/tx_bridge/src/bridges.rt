@@ -496,8 +496,8 @@ impl Bridges {
         }
     }
 
-    /// What names have behind all units, as the last refresh left it. Before the first one no name has anything. An edit
-    /// leaves it as it is.
+    /// What names have behind all units, as the last refresh left it. Before the first one no name has anything. An
+    /// edit leaves it as it is.
     pub fn end(&self) -> &Env
         ensures { result.now.map ≡ self.now.end }
     {

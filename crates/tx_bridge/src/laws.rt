@@ -110,9 +110,9 @@ pub fn staying_law()
 
 /// A law: what a refresh is charged is no more than the bound. The bound counts for each unit that is over all that it
 /// may take; for a paragraph of the body that is touched the costs of its parts that are reached, and those of all
-/// trees of its layers; for another unit, where nothing of it can be used, its cost. A paragraph is touched where neither
-/// its trace can be used nor the spare's, or where one of its parts isn't held, or a tree of its layers isn't. A part is
-/// reached where it isn't held.
+/// trees of its layers; for another unit, where nothing of it can be used, its cost. A paragraph is touched where
+/// neither its trace can be used nor the spare's, or where one of its parts isn't held, or a tree of its layers isn't.
+/// A part is reached where it isn't held.
 pub fn bound_law()
     ensures { (start : List (Name × WideTree)) (sheller : Sheller) → IsSheller sheller → (kept : Kept)
         (parts : List KeptParts) (layers : List (List TreeTrace)) (spares : Spares) → AreUnits (units_of kept)

@@ -185,7 +185,8 @@ impl Moment {
         ensures charge { IfOk result (λ e. e.charge
             ≡ parts_charge_by (shells_by (O.opens opener.now)) self.old unit.now (kept_parts kept.now)
             (kept_parts spare.now) layers.now spare_layers.now) }
-        ensures layers { IfOk result (λ e. UnitLayersKnown (shells_by (O.opens opener.now)) self.old unit.now e.layers) }
+        ensures layers { IfOk result
+            (λ e. UnitLayersKnown (shells_by (O.opens opener.now)) self.old unit.now e.layers) }
         ensures counted { IfOk result (λ e. steps.new ≡ steps.old + e.charge) }
         ensures stays { self.new ≡ self.old }
     {

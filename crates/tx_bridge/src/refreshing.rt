@@ -122,9 +122,9 @@ fn refresh_all<O: Opener, L: Ledger>(
 impl Bridges {
     /// Brings each unit to what evaluating all from nothing gives. What is kept of a unit is used again where its looks
     /// agree with what names have before it, and its cost is allowed. The steps rise by the charges, which it answers:
-    /// a paragraph of the body is charged its parts of which nothing that fits is kept, and another unit its cost, where
-    /// nothing that fits is kept of it. A paragraph is reached also where its parts aren't those that were kept, as
-    /// behind a refresh with an opener.
+    /// a paragraph of the body is charged its parts of which nothing that fits is kept, and another unit its cost,
+    /// where nothing that fits is kept of it. A paragraph is reached also where its parts aren't those that were kept,
+    /// as behind a refresh with an opener.
     ///
     /// What is kept of a part whose flag is down behind it is what was kept at the part's path. Of a unit that wasn't
     /// reached all that was kept of its parts stays. Strays go.
@@ -257,8 +257,7 @@ impl Bridges {
     }
 
     // The same. Where it isn't `shelled`, the opener opens nothing.
-    #[tactic(auto, unfolding(crate::specs::Names::FreshTracesFrom, crate::specs::Names::FreshPartsBy,
-        crate::specs::Names::EndFrom,))]
+    #[tactic(auto, unfolding(crate::specs::Names::FreshTracesFrom, crate::specs::Names::FreshPartsBy, crate::specs::Names::EndFrom,))]
     fn refresh_by<O: Opener, L: Ledger>(
         &mut self,
         alloc: Global,

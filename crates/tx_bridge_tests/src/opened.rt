@@ -22,11 +22,11 @@ struct Refresh(&'static str, bool);
 
 // The paragraphs behind one that sets `box`, the refreshes of what is kept and of the spare, or None where they keep
 // nothing, a refresh, its charges, and what it leaves: of each paragraph, a space between them, a cross where it was
-// reached, else a point, and its parts, each with its path in the paragraph and a cross where nothing that fits was kept
-// of it, else a point.
+// reached, else a point, and its parts, each with its path in the paragraph and a cross where nothing that fits was
+// kept of it, else a point.
 //
-// A text costs 1 and its bytes, and `(value "k")` costs 3 and 1 and the bytes of the text that `k` has. So the layers of
-// a box cost 4 for `"red"`, and 5 for `(value "m")` where `m` has a text of one byte.
+// A text costs 1 and its bytes, and `(value "k")` costs 3 and 1 and the bytes of the text that `k` has. So the layers
+// of a box cost 4 for `"red"`, and 5 for `(value "m")` where `m` has a text of one byte.
 struct OpenedRow(
     &'static str,
     Option<Refresh>,

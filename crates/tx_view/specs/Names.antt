@@ -57,8 +57,8 @@ Carry buffer ms old s new = record {
 }
 
 -- What is kept is of the units of these buffers, of their parts, and of strays, which are places of the document. The
--- trace of a unit, of a part or of a stray is that of its tree wherever what it looked up is as it was. What is laid out
--- of a part, or of a stray, is of one that is kept.
+-- trace of a unit, of a part or of a stray is that of its tree wherever what it looked up is as it was. What is laid
+-- out of a part, or of a stray, is of one that is kept.
 unfoldable pub Holds : List Buffer → ViewStores → Type 0
 Holds buffers s =
     AllHold s.kept × AllPartsHold s.kept s.parts × (units_of s.kept ≡ units buffers)

@@ -550,7 +550,7 @@ pub(crate) fn carried<L: Ledger>(
     ensures strays { OnOk result (kept_strays bridges.new.strays ≡ CarryStrays
         (PartMoves buffer mods.now (tree_of buffers.now buffer) (units_of bridges.old.kept) bridges.old.parts
         (kept_strays bridges.old.strays) (units (with_tree buffers.now buffer tree.now))) (length (units (with_tree
-            buffers.now buffer tree.now)))) }
+        buffers.now buffer tree.now)))) }
     ensures within { OnOk result (bridges.new.parts ≡ parts_after buffer mods.now (tree_of buffers.now buffer)
         (units_of bridges.old.kept) bridges.old.parts (kept_strays bridges.old.strays)
         (units (with_tree buffers.now buffer tree.now)) bridges.new.sources) }
