@@ -4,39 +4,20 @@ ghost use Rattle.tx_mod.specs.Followed.{changed_by_all};
 ghost use Rattle.tx_units.specs.Units.{units};
 ghost use Rattle.tx_bridge.specs.Entries.{units_of};
 
-use crate::outcomes::{alike, tree_of};
+use crate::outcomes::alike;
 use std::alloc::Global;
 use std::sync::ledger::Ledger;
 use tx_base::Steps;
 use tx_bridge::{Bridges, unit_list_laws};
 use tx_cmd::{Command, parse};
-use tx_doc::{Buffer, Name};
+use tx_doc::Buffer;
 use tx_mod::{Mod, apply};
+use tx_samples::told_buffers;
 use tx_tree::Tree;
 use tx_units::units;
 
 // How many units the base style has.
 pub(crate) const BASE: u32 = 26;
-
-// A buffer: a name, a space and a tree.
-fn told_buffer<L: Ledger>(alloc: Global, words: &str, steps: &mut Steps<L>) -> Option<Buffer> {
-    let (name, words) = words.split_once(' ')?;
-    let tree = tree_of(alloc, words, steps)?;
-    let name = Name::from(Vec::from_slice(alloc, name.as_bytes()).ok()?);
-    Some(Buffer { name, tree })
-}
-
-fn told_buffers<L: Ledger>(
-    alloc: Global,
-    words: &str,
-    steps: &mut Steps<L>,
-) -> Option<Vec<Buffer>> {
-    let mut buffers = Vec::new(alloc);
-    for part in words.split(';') {
-        buffers.push(told_buffer(alloc, part, steps)?).ok()?;
-    }
-    Some(buffers)
-}
 
 // Buffers, each a name and a tree, `;` between them, 16 at most.
 pub(crate) fn buffers_of<L: Ledger>(

@@ -251,7 +251,7 @@ fn carry_in_place<L: Ledger>(
 }
 
 // Changes the first buffer, and carries what is kept in place.
-fn change_in_place<L: Ledger>(
+pub(crate) fn change_in_place<L: Ledger>(
     alloc: Global,
     bridges: &mut Bridges,
     buffers: &mut [Buffer],

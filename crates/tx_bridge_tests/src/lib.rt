@@ -12,6 +12,8 @@ mod buffers;
 #[cfg(test)]
 mod edits;
 #[cfg(test)]
+mod ends;
+#[cfg(test)]
 mod keeping;
 #[cfg(test)]
 mod moves;
@@ -26,8 +28,12 @@ mod rows;
 #[cfg(test)]
 mod series;
 #[cfg(test)]
+mod shell_edits;
+#[cfg(test)]
 mod shells;
 #[cfg(test)]
 mod starts;
 #[cfg(test)]
 mod walks;
+#[cfg(test)]
+mod ways;

@@ -1,13 +1,13 @@
 // Refreshes with an opener, and with none behind one.
-ghost use Rattle.std.specs.Prelude.{◌≡◌, ◌≤◌, length, IfSome, option_copied};
+ghost use Rattle.std.specs.Prelude.{◌≡◌, ◌≤◌, [], length, IfSome, OnSome, option_copied};
 ghost use Rattle.tx_units.specs.Units.{units};
 ghost use Rattle.tx_bridge.specs.Entries.{units_of};
 
 use crate::boxes::Boxes;
-use crate::buffers::{BASE, are_fresh, buffers_of};
+use crate::buffers::{BASE, buffers_of};
 use crate::moves::push_parts;
 use crate::rows::{Row, first_untrue};
-use crate::starts::{kept_from, writes_of};
+use crate::starts::{Start, are_from_start, writes_of};
 use std::alloc::Global;
 use std::fmt::Write;
 use std::marker::Brand;
@@ -18,7 +18,8 @@ use tx_doc::Buffer;
 use tx_units::units;
 
 // A refresh: names and texts from which it starts, `;` between them, and whether boxes are opened.
-struct Refresh(&'static str, bool);
+#[derive(Drop)]
+pub(crate) struct Refresh(pub Start, pub bool);
 
 // The paragraphs behind one that sets `box`, the refreshes of what is kept and of the spare, or None where they keep
 // nothing, a refresh, its charges, and what it leaves: of each paragraph, a space between them, a cross where it was
@@ -156,7 +157,7 @@ const OPENED: &[OpenedRow] = &[
 ];
 
 // The document with these paragraphs, the first of which sets `box`.
-fn document_of(alloc: Global, paragraphs: &str) -> Option<String> {
+pub(crate) fn document_of(alloc: Global, paragraphs: &str) -> Option<String> {
     let mut text = String::new(alloc);
     text.push_str("d (document (assign \"box\" (macro \"x\" (with \"color\" \"red\"")
         .ok()?;
@@ -167,7 +168,7 @@ fn document_of(alloc: Global, paragraphs: &str) -> Option<String> {
 }
 
 // The charges of the refresh, with this spare, if there is one.
-fn refreshed<L: Ledger>(
+pub(crate) fn refreshed<L: Ledger>(
     alloc: Global,
     bridges: &mut Bridges,
     refresh: &Refresh,
@@ -177,6 +178,7 @@ fn refreshed<L: Ledger>(
 ) -> Option<u64>
     requires same { IfSome (option_copied spare) (λ others. units_of others.kept ≡ units_of bridges.old.kept) }
     ensures units { units_of bridges.new.kept ≡ units_of bridges.old.kept }
+    ensures strays { OnSome result (bridges.new.strays ≡ []) }
 {
     let start = writes_of(alloc, refresh.0, steps)?;
     if refresh.1 {
@@ -188,7 +190,7 @@ fn refreshed<L: Ledger>(
 }
 
 // The units, refreshed so, if they are.
-fn kept_by<L: Ledger>(
+pub(crate) fn kept_by<L: Ledger>(
     alloc: Global,
     buffers: &[Buffer],
     refresh: &Option<Refresh>,
@@ -197,7 +199,8 @@ fn kept_by<L: Ledger>(
 ) -> Option<Bridges>
     requires some { 1 ≤ length buffers.now }
     requires few { length buffers.now ≤ 16 }
-    ensures { IfSome result (λ b. units_of b.kept ≡ units buffers.now) }
+    ensures units { IfSome result (λ b. units_of b.kept ≡ units buffers.now) }
+    ensures strays { IfSome result (λ b. b.strays ≡ []) }
 {
     unit_list_laws();
     let units = units(alloc, buffers, steps).ok()?;
@@ -209,7 +212,7 @@ fn kept_by<L: Ledger>(
 }
 
 // The paragraphs, and their parts.
-fn units_told(alloc: Global, bridges: &Bridges) -> Option<String> {
+pub(crate) fn units_told(alloc: Global, bridges: &Bridges) -> Option<String> {
     let mut text = String::new(alloc);
     for i in BASE..1000 {
         let Some(parts) = bridges.parts(i) else {
@@ -222,21 +225,6 @@ fn units_told(alloc: Global, bridges: &Bridges) -> Option<String> {
         push_parts(&mut text, parts)?;
     }
     None
-}
-
-// Whether all outcomes are those of a refresh from nothing without an opener, with this start.
-fn are_from_start<L: Ledger>(
-    alloc: Global,
-    buffers: &[Buffer],
-    bridges: &Bridges,
-    words: &str,
-    steps: &mut Steps<L>,
-) -> Option<bool>
-    requires some { 1 ≤ length buffers.now }
-    requires few { length buffers.now ≤ 16 }
-{
-    let fresh = kept_from(alloc, buffers, Some(words), steps)?;
-    are_fresh(alloc, bridges, &fresh, steps)
 }
 
 // Whether the refresh costs what it is to cost, and leaves what it is to leave.

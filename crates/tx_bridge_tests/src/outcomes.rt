@@ -1,4 +1,4 @@
-// Trees that are read and evaluated, and what they come to.
+// Trees that are evaluated, and what they come to.
 ghost use Rattle.std.specs.Prelude.{◌≤◌};
 
 use std::alloc::Global;
@@ -8,11 +8,6 @@ use tx_env::Env;
 use tx_exec::{Outcome, eval};
 use tx_origin::{Ip, Tagged};
 use tx_tree::Tree;
-
-// The tree that these words spell.
-pub(crate) fn tree_of<L: Ledger>(alloc: Global, words: &str, steps: &mut Steps<L>) -> Option<Tree> {
-    tx_scm::read(alloc, words.as_bytes(), steps).ok()
-}
 
 // What the whole tree comes to.
 pub(crate) fn evaluated<L: Ledger>(

@@ -6,7 +6,7 @@ ghost use Rattle.tx_walk.specs.Held.{IsSound};
 ghost use Rattle.tx_walk.specs.Walked.{IsTidy, kept_in, paths_of};
 
 use crate::boxes::Boxes;
-use crate::outcomes::{evaluated, same, tree_of};
+use crate::outcomes::{evaluated, same};
 use crate::rows::{Row, first_untrue};
 use std::alloc::Global;
 use std::marker::Brand;
@@ -14,6 +14,7 @@ use std::sync::ledger::{Blank, Ledger};
 use tx_base::Steps;
 use tx_env::Env;
 use tx_exec::Outcome;
+use tx_samples::tree_of;
 use tx_tree::{Tree, text_of};
 use tx_walk::{LayerTrace, Part, Walked, kept_law, walk_with, walked_law};
 

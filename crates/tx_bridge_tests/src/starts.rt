@@ -1,24 +1,24 @@
 // Refreshes from a start, and with a spare.
-ghost use Rattle.std.specs.Prelude.{◌≡◌, ◌≤◌, length, IfSome, option_copied};
+ghost use Rattle.std.specs.Prelude.{◌≡◌, ◌≤◌, [], length, IfSome};
 ghost use Rattle.tx_units.specs.Units.{units};
 ghost use Rattle.tx_bridge.specs.Entries.{units_of};
 
 use crate::buffers::{are_fresh, buffers_of};
-use crate::outcomes::tree_of;
-use crate::parts::{are_marked, has_text};
+use crate::parts::are_marked;
 use crate::rows::{Row, first_untrue};
 use std::alloc::Global;
 use std::marker::Brand;
 use std::sync::ledger::{Blank, Ledger};
-use tx_base::{Memory, Steps};
-use tx_bridge::{Bridges, Moment, unit_list_laws};
+use tx_base::Steps;
+use tx_bridge::{Bridges, unit_list_laws};
 use tx_doc::Buffer;
 use tx_env::Writes;
+use tx_samples::tree_of;
 use tx_tree::{Text, Tree};
 use tx_units::units;
 
 // Names and texts, `;` between them.
-type Start = &'static str;
+pub(crate) type Start = &'static str;
 
 // Buffers, from which start what is kept and the spare were refreshed, or None where they keep nothing, the start of a
 // refresh, its charges, and for each unit behind those of the base style, a `/` between them, a mark for each part: a
@@ -156,7 +156,8 @@ pub(crate) fn kept_from<L: Ledger>(
 ) -> Option<Bridges>
     requires some { 1 ≤ length buffers.now }
     requires few { length buffers.now ≤ 16 }
-    ensures { IfSome result (λ b. units_of b.kept ≡ units buffers.now) }
+    ensures units { IfSome result (λ b. units_of b.kept ≡ units buffers.now) }
+    ensures strays { IfSome result (λ b. b.strays ≡ []) }
 {
     unit_list_laws();
     let units = units(alloc, buffers, steps).ok()?;
@@ -183,7 +184,7 @@ fn charged<L: Ledger>(
 }
 
 // Whether all outcomes are those of a refresh from nothing, with this start.
-fn are_from_start<L: Ledger>(
+pub(crate) fn are_from_start<L: Ledger>(
     alloc: Global,
     buffers: &[Buffer],
     bridges: &Bridges,
@@ -229,50 +230,4 @@ impl Row for StartRow {
 fn what_fits_from_a_start_is_used_again(rt: HostRuntime) {
     let wrong = first_untrue::<Brand, _>(rt.alloc(), STARTS, Blank::new(1));
     assert_eq!(rt; wrong, None);
-}
-
-// The moment behind all units, from a start.
-fn end_behind<L: Ledger>(
-    alloc: Global,
-    bridges: &mut Bridges,
-    start: &Writes,
-    steps: &mut Steps<L>,
-) -> Result<Moment, Memory> {
-    bridges.refresh_from(alloc, start, None, steps)?;
-    bridges.end_from(alloc, start)
-}
-
-// Whether the name has this text behind all units, from a start.
-fn ends_with<L: Ledger>(
-    alloc: Global,
-    bridges: &mut Bridges,
-    start: &str,
-    name: &[u8],
-    text: &[u8],
-    steps: &mut Steps<L>,
-) -> Option<bool> {
-    let start = writes_of(alloc, start, steps)?;
-    let end = end_behind(alloc, bridges, &start, steps).ok()?;
-    has_text(alloc, &end, name, text)
-}
-
-// Whether the name that the start sets has this text behind units that don't set it.
-fn is_still_set<L: Ledger>(alloc: Global, blank: Blank) -> Option<bool>
-    requires name { blank.name ≡ L.name }
-    requires parts { blank.parts ≡ L.parts }
-    requires whole { blank.parts ≡ 1 }
-{
-    let mut steps = Steps::<L>::new(blank);
-    let buffers = buffers_of(alloc, "d (document (value \"n\"))", &mut steps)?;
-    let mut bridges = kept_from(alloc, &buffers, None, &mut steps)?;
-    let (name, text) = (b"n".as_slice(), b"xy".as_slice());
-    ends_with(alloc, &mut bridges, "n \"xy\"", name, text, &mut steps)
-}
-
-#[test]
-fn the_end_has_what_the_start_sets(rt: HostRuntime) {
-    assert_eq!(rt;
-        is_still_set::<Brand>(rt.alloc(), Blank::new(1)),
-        Some(true)
-    );
 }
