@@ -316,7 +316,8 @@ fn ends_so<L: Ledger>(
     steps: &mut Steps<L>,
 ) -> Option<bool> {
     let names = writes_of(alloc, row.has, steps)?;
-    Some(has_all(env, &names) && lacks_all(alloc, env, row.lacks)?)
+    let lacks = lacks_all(alloc, env, row.lacks)?;
+    Some(lacks && has_all(env, &names))
 }
 
 // Whether they do behind what the row does.

@@ -16,12 +16,13 @@ use tx_base::Steps;
 use tx_bridge::Bridges;
 use tx_doc::Buffer;
 
-// The paragraphs behind one that sets `box`, the start of all refreshes, an edit behind the first one, the charges of the
-// second one, and what that leaves: of each paragraph, a space between them, a cross where it was reached, else a point,
-// and its parts, each with its path in the paragraph and a cross where nothing that fits was kept of it, else a point.
+// The paragraphs behind one that sets `box`, the start of all refreshes, an edit behind the first one, the charges of
+// the second one, and what that leaves: of each paragraph, a space between them, a cross where it was reached, else a
+// point, and its parts, each with its path in the paragraph and a cross where nothing that fits was kept of it, else a
+// point.
 //
-// A text costs 1 and its bytes, and `(value "k")` costs 3 and 1 and the bytes of the text that `k` has. So the layers of
-// a box cost 4 for `"red"`, and 5 for `(value "m")` where `m` has a text of one byte.
+// A text costs 1 and its bytes, and `(value "k")` costs 3 and 1 and the bytes of the text that `k` has. So the layers
+// of a box cost 4 for `"red"`, and 5 for `(value "m")` where `m` has a text of one byte.
 struct ShellEditRow(&'static str, Start, Way, u64, &'static str);
 
 const SHELL_EDITS: &[ShellEditRow] = &[

@@ -34,12 +34,12 @@ impl Way {
         requires strays { bridges.old.strays ≡ [] }
         ensures many { length buffers.new ≡ length buffers.old }
     {
-        match self {
+        match *self {
             Way::Listed(k, lines) => {
-                if *k as usize >= buffers.len() {
+                if k as usize >= buffers.len() {
                     return None;
                 }
-                change(alloc, bridges, buffers, *k, lines, steps)
+                change(alloc, bridges, buffers, k, lines, steps)
             }
             Way::InPlace(lines) => change_in_place(alloc, bridges, buffers, lines, steps),
         }
