@@ -1,15 +1,14 @@
 -- What a refresh is charged is no more than its bound.
 use Rattle.std.proofs.Common.{◌≡◌, ℕ, ◌+◌, ◌≤◌, List, [], ◌∷◌, Option, Some, None, refl, ap, sym, ◌∙◌, arith}
-use Rattle.std.proofs.lemmas.Bool.{eqb-true}
 use Rattle.std.proofs.lemmas.List.Sums.{sum_by-cons}
-use Rattle.std.specs.Prelude.{Bool, true, false, not, ◌&&◌, ◌||◌, ◌==◌, if◌then◌else◌, drop}
+use Rattle.std.specs.Prelude.{Bool, true, false, not, ◌||◌, if◌then◌else◌, drop}
 use Rattle.std.specs.List.{AllByRecursion, list_all}
 use Rattle.std.specs.FinMap.{get}
 use Rattle.tx_exec_form.specs.declared.TheConstants.{MOST_LEVELS}
 use Rattle.tx_exec_form.specs.Evaluated.{WideTrace}
 use Rattle.tx_parts.specs.Opening.{Sheller}
 use Rattle.tx_parts.specs.Shellers.{IsSheller}
-use Rattle.tx_parts.specs.LayerCosts.{HoldsMore, layer_costs_by}
+use Rattle.tx_parts.specs.LayerCosts.{HoldsMore, holds_nothing, layer_costs_by}
 use Rattle.tx_parts.specs.Parts.{Part, part_cost}
 use Rattle.tx_walk.specs.Held.{Stores, is_part_held, charge_of as part_charge, charges}
 use Rattle.tx_walk.specs.LayerTraces.{TreeTrace, holds_either}
@@ -21,8 +20,8 @@ use Rattle.tx_bridge.specs.Reached.{can_be_used}
 use Rattle.tx_bridge.specs.Spares.{UnitSpare, Spares, first_spare, stores_with}
 use Rattle.tx_bridge.specs.Charges.{layers_charge, parts_charge_by, whole_charge, unit_charge_by, is_charged, charge_by}
 use Rattle.tx_bridge.specs.Charges.{first_layers, charges_by}
-use Rattle.tx_bridge.specs.Bound.{is_unused, are_parts_held, are_layers_held, is_touched, holds_nothing, touched_bound}
-use Rattle.tx_bridge.specs.Bound.{bound_at, unit_bound, bounds_by}
+use Rattle.tx_bridge.specs.Bound.{is_unused, are_parts_held, is_touched, touched_bound, layers_left, bound_at}
+use Rattle.tx_bridge.specs.Bound.{unit_bound, bounds_by}
 use Rattle.tx_bridge.specs.UnitLists.{HasPathIfBody}
 use Rattle.tx_bridge.proofs.ByParts.{charge_most}
 use Rattle.tx_bridge.proofs.HeldLayers.{AllFewer}
@@ -38,10 +37,10 @@ held_free kept (p ∷ ps) h =
     let others : charges kept ps ≡ 0 = held_free kept ps tests.1 in
     omega (arith, sum, one, others)
 
--- what a test chooses, where either choice is no more than its own
-chosen : (b : Bool) (n m : ℕ) → (b ≡ true → n ≤ m) → (b ≡ false → n ≡ 0) → n ≤ (if b then m else 0)
-chosen true n m most none = most refl
-chosen false n m most none = let zero : n ≡ 0 = none refl in omega (arith, zero)
+-- what a test chooses, where either choice is no less
+chosen : (b : Bool) (n m k : ℕ) → n ≤ m → (b ≡ false → n ≤ k) → n ≤ (if b then m else k)
+chosen true n m k most less = most
+chosen false n m k most less = less refl
 
 neither : (a b : Bool) → (a || not b) ≡ false → b ≡ true
 neither false true h = refl
@@ -66,30 +65,22 @@ module _ (fewer : AllFewer) (sheller : Sheller) (sound : IsSheller sheller) (m :
       (get m.env) in
       omega (arith, is, less)
 
-  -- where all is held, nothing is charged
-  untouched_free : has_parts e.unit ≡ true → is_touched sheller m e ps ls s ≡ false
-      → parts_charge_by sheller m e.unit ps s.parts ls s.layers ≡ 0
-  untouched_free nested h =
-      let tests : (are_parts_held sheller m e.unit ps s ≡ true) × (are_layers_held sheller m e.unit ls s ≡ true) =
-      both (are_parts_held sheller m e.unit ps s) (are_layers_held sheller m e.unit ls s)
-      (neither (is_unused m e s) (are_parts_held sheller m e.unit ps s && are_layers_held sheller m e.unit ls s) h) in
+  -- where all parts are held, layers alone are charged
+  untouched_most : has_parts e.unit ≡ true → is_touched sheller m e ps s ≡ false
+      → parts_charge_by sheller m e.unit ps s.parts ls s.layers ≤ layers_left sheller m e.unit ls s
+  untouched_most nested h =
       let parts : charges (stores_with ps s.parts) (unit_parts_by sheller m e.unit) ≡ 0 =
-      held_free (stores_with ps s.parts) (unit_parts_by sheller m e.unit) tests.0 in
-      let layers : layer_costs_by (holds_either ls s.layers) sheller MOST_LEVELS (allowance m) e.unit.tagged.tree
-      (get m.env) ≡ 0 =
-      sym (ap (λ b. if b then layer_costs_by (holds_either ls s.layers) sheller MOST_LEVELS (allowance m)
-      e.unit.tagged.tree (get m.env) else 0) nested)
-      ∙ eqb-true (layers_charge (holds_either ls s.layers) sheller m e.unit) 0 tests.1 in
+      held_free (stores_with ps s.parts) (unit_parts_by sheller m e.unit)
+      (neither (is_unused m e s) (are_parts_held sheller m e.unit ps s) h) in
+      let layers : layers_left sheller m e.unit ls s
+      ≡ layer_costs_by (holds_either ls s.layers) sheller MOST_LEVELS (allowance m) e.unit.tagged.tree (get m.env) =
+      ap (λ b. if b then layer_costs_by (holds_either ls s.layers) sheller MOST_LEVELS (allowance m)
+      e.unit.tagged.tree (get m.env) else 0) nested in
       omega (arith, parts, layers)
 
   touched_most : has_parts e.unit ≡ true
       → parts_charge_by sheller m e.unit ps s.parts ls s.layers ≤ touched_bound sheller m e.unit ps s
   touched_most nested = omega (arith, layers_fewer nested)
-
-  -- what the unit is charged where it is evaluated
-  charged_is : charge_by sheller m e ps ls s
-      ≡ (if is_charged m e then unit_charge_by sheller m e.unit ps ls s else 0)
-  charged_is = refl
 
   unit_most : (o : Option WideTrace) → o ≡ outcome_of m e.unit
       → charge_by sheller m e ps ls s ≤ bound_at sheller m e ps ls s o
@@ -108,11 +99,13 @@ module _ (fewer : AllFewer) (sheller : Sheller) (sound : IsSheller sheller) (m :
       by : (b : Bool) → has_parts e.unit ≡ b
           → (if b || not (can_be_used m e.trace)
           then if b then parts_charge_by sheller m e.unit ps s.parts ls s.layers else whole_charge m e.unit s else 0)
-          ≤ (if b then if is_touched sheller m e ps ls s then touched_bound sheller m e.unit ps s else 0
+          ≤ (if b then if is_touched sheller m e ps s then touched_bound sheller m e.unit ps s
+          else layers_left sheller m e.unit ls s
           else if is_unused m e s then charge m (Some trace) else 0)
       by true nested =
-          chosen (is_touched sheller m e ps ls s) (parts_charge_by sheller m e.unit ps s.parts ls s.layers)
-          (touched_bound sheller m e.unit ps s) (λ h. touched_most nested) (untouched_free nested)
+          chosen (is_touched sheller m e ps s) (parts_charge_by sheller m e.unit ps s.parts ls s.layers)
+          (touched_bound sheller m e.unit ps s) (layers_left sheller m e.unit ls s) (touched_most nested)
+          (untouched_most nested)
       by false other = whole (can_be_used m e.trace) (can_be_used m s.trace)
         where
           whole : (a b : Bool) → (if not a then if b then 0 else charge m (outcome_of m e.unit) else 0)

@@ -19,16 +19,17 @@ use Rattle.tx_walk.specs.Held.{agrees}
 use Rattle.tx_walk.specs.LayerTraces.{TreeTrace, serves_for, holds_in, holds_either}
 use Rattle.tx_walk.proofs.Agreed.{agrees_is, agrees_of}
 use Rattle.tx_walk.proofs.Trees.{both, same_is}
+use Rattle.tx_units.specs.declared.kinds.Unit.{Unit as DocUnit}
 use Rattle.tx_view_form.specs.Outcomes.{Moment, allowance}
 use Rattle.tx_bridge.specs.Entries.{Entry, outcome_of}
 use Rattle.tx_bridge.specs.Reached.{can_be_used}
-use Rattle.tx_bridge.specs.PartsKept.{has_parts, fresh_parts_by}
+use Rattle.tx_bridge.specs.PartsKept.{KeptParts, has_parts, fresh_parts_by}
 use Rattle.tx_bridge.specs.Spares.{UnitSpare}
-use Rattle.tx_bridge.specs.Charges.{charge_by, LayersHold, UnitLayersKnown}
+use Rattle.tx_bridge.specs.Charges.{layers_charge, charge_by, AreLayersSound, UnitLayersKnown}
 use Rattle.tx_bridge.specs.UnitLists.{HasPathIfBody}
 use Rattle.tx_bridge.proofs.ByParts.{AllSameStored, outcome_there}
 use Rattle.tx_bridge.proofs.Remaining.{AllTraced}
-use Rattle.tx_bridge.proofs.Spared.{AllDistinct, staying_charged, fresh_stays}
+use Rattle.tx_bridge.proofs.Spared.{AllDistinct, staying_charged, fresh_stays, spare_layers}
 use Rattle.tx_bridge.proofs.Used.{AllSupport, AllAllowed, AllAgree}
 
 -- laws of layers' costs, as the calls state them
@@ -73,7 +74,7 @@ module _ (support : AllSupport) (agree : AllAgree) where
   any_true true b h = refl
   any_true false b h = h
 
-  pub stays_held : (ls : List TreeTrace) → LayersHold ls → StaysHeld (holds_in ls)
+  pub stays_held : (ls : List TreeTrace) → AreLayersSound ls → StaysHeld (holds_in ls)
   stays_held [] hold k c t e d trace h comes looks = cc
   stays_held (m ∷ ms) hold k c t e d trace h comes looks =
       by (serves_for t e m) refl h (λ g. stays_held ms hold.1 k c t e d trace g comes looks)
@@ -86,39 +87,64 @@ module _ (support : AllSupport) (agree : AllAgree) where
 more_either : (ls rs : List TreeTrace) → HoldsMore (holds_in ls) (holds_either ls rs)
 more_either ls rs t e h = ap (λ b. b || holds_in rs t e) h
 
+more_second : (ls rs : List TreeTrace) → HoldsMore (holds_in rs) (holds_either ls rs)
+more_second ls rs t e h = any_second (holds_in ls t e) (holds_in rs t e) h
+  where
+    any_second : (a b : Bool) → b ≡ true → a || b ≡ true
+    any_second true b g = refl
+    any_second false b g = g
+
+-- Where nothing was left to evaluate of the layers of a unit, nothing is where its trace fits, and no less is held.
+known_free : AllSupport → AllAgree → AllAgain → AllFewer → (sheller : Sheller) → IsSheller sheller → (m n : Moment)
+    (u : DocUnit) (ts : List TreeTrace) (held : Holder) (trace : WideTrace) → HasPathIfBody u
+    → outcome_of n u ≡ Some trace → can_be_used m (Some trace) ≡ true → AreLayersSound ts
+    → UnitLayersKnown sheller n u ts → HoldsMore (holds_in ts) held → layers_charge held sheller m u ≡ 0
+known_free support agree again fewer sheller sound m n u ts held trace placed is fit hold known more =
+    by (has_parts u) refl
+  where
+    tests : (agrees (get m.env) trace.looks ≡ true) × (nat_le trace.cost (allowance m) ≡ true)
+    tests = both (agrees (get m.env) trace.looks) (nat_le trace.cost (allowance m)) fit
+
+    by : (b : Bool) → has_parts u ≡ b
+        → (if b then layer_costs_by held sheller MOST_LEVELS (allowance m) u.tagged.tree (get m.env) else 0) ≡ 0
+    by false nested = refl
+    by true nested =
+        let before : layer_costs_by (holds_in ts) sheller MOST_LEVELS (allowance n) u.tagged.tree (get n.env) ≡ 0 =
+        sym (ap (λ b. if b
+        then layer_costs_by (holds_in ts) sheller MOST_LEVELS (allowance n) u.tagged.tree (get n.env) else 0)
+        nested) ∙ known trace is in
+        let here : layer_costs_by (holds_in ts) sheller MOST_LEVELS (allowance m) u.tagged.tree (get m.env) ≡ 0 =
+        again (holds_in ts) (stays_held support agree ts hold) sheller sound MOST_LEVELS (allowance n) (allowance m)
+        u.tagged.tree (get n.env) (get m.env) trace
+        (outcome_there u n n.env n.left (allowance n) refl refl placed nested ∙ is)
+        (agrees_is (get m.env) trace.looks tests.0) (leb-true trace.cost (allowance m) tests.1) before in
+        let less : layer_costs_by held sheller MOST_LEVELS (allowance m) u.tagged.tree (get m.env)
+        ≤ layer_costs_by (holds_in ts) sheller MOST_LEVELS (allowance m) u.tagged.tree (get m.env) =
+        fewer (holds_in ts) held sheller more MOST_LEVELS (allowance m) u.tagged.tree (get m.env) in
+        omega (arith, here, less)
+
 -- a unit whose trace fits, whose parts a refresh has left, and whose layers are known, is charged nothing
 pub charged_nothing : AllSupport → AllAllowed → AllAgree → AllSameStored → AllTraced → AllDistinct → AllAgain
     → AllFewer → (sheller : Sheller) → IsSheller sheller → (m n : Moment) (e : Entry) (ls : List TreeTrace)
     (s : UnitSpare) (trace : WideTrace) → HasPathIfBody e.unit → e.trace ≡ Some trace
-    → outcome_of n e.unit ≡ Some trace → can_be_used m (Some trace) ≡ true → LayersHold ls
+    → outcome_of n e.unit ≡ Some trace → can_be_used m (Some trace) ≡ true → AreLayersSound ls
     → UnitLayersKnown sheller n e.unit ls → charge_by sheller m e (fresh_parts_by sheller n e.unit) ls s ≡ 0
 charged_nothing support allowed agree same traced distinct again fewer sheller sound m n e ls s trace placed at is fit
     hold known =
     staying_charged distinct sheller m e (fresh_parts_by sheller n e.unit) ls s
     (fresh_stays support allowed agree same traced distinct sheller sound m n e trace placed at is fit)
-    ∙ by (has_parts e.unit) refl
-  where
-    tests : (agrees (get m.env) trace.looks ≡ true) × (nat_le trace.cost (allowance m) ≡ true)
-    tests = both (agrees (get m.env) trace.looks) (nat_le trace.cost (allowance m)) fit
+    ∙ known_free support agree again fewer sheller sound m n e.unit ls (holds_either ls s.layers) trace placed is fit
+    hold known (more_either ls s.layers)
 
-    by : (b : Bool) → has_parts e.unit ≡ b
-        → (if b
-        then layer_costs_by (holds_either ls s.layers) sheller MOST_LEVELS (allowance m) e.unit.tagged.tree (get m.env)
-        else 0) ≡ 0
-    by false nested = refl
-    by true nested =
-        let before : layer_costs_by (holds_in ls) sheller MOST_LEVELS (allowance n) e.unit.tagged.tree (get n.env) ≡ 0 =
-        sym (ap (λ b. if b
-        then layer_costs_by (holds_in ls) sheller MOST_LEVELS (allowance n) e.unit.tagged.tree (get n.env) else 0)
-        nested) ∙ known trace is in
-        let here : layer_costs_by (holds_in ls) sheller MOST_LEVELS (allowance m) e.unit.tagged.tree (get m.env) ≡ 0 =
-        again (holds_in ls) (stays_held support agree ls hold) sheller sound MOST_LEVELS (allowance n) (allowance m)
-        e.unit.tagged.tree (get n.env) (get m.env) trace
-        (outcome_there e.unit n n.env n.left (allowance n) refl refl placed nested ∙ is)
-        (agrees_is (get m.env) trace.looks tests.0) (leb-true trace.cost (allowance m) tests.1) before in
-        let less : layer_costs_by (holds_either ls s.layers) sheller MOST_LEVELS (allowance m) e.unit.tagged.tree
-        (get m.env)
-        ≤ layer_costs_by (holds_in ls) sheller MOST_LEVELS (allowance m) e.unit.tagged.tree (get m.env) =
-        fewer (holds_in ls) (holds_either ls s.layers) sheller (more_either ls s.layers) MOST_LEVELS (allowance m)
-        e.unit.tagged.tree (get m.env) in
-        omega (arith, here, less)
+-- so is one of which all this is spare
+pub spare_nothing : AllSupport → AllAllowed → AllAgree → AllSameStored → AllTraced → AllDistinct → AllAgain
+    → AllFewer → (sheller : Sheller) → IsSheller sheller → (m n : Moment) (e : Entry) (ps : KeptParts)
+    (ls rs : List TreeTrace) (trace : WideTrace) → HasPathIfBody e.unit → outcome_of n e.unit ≡ Some trace
+    → can_be_used m (Some trace) ≡ true → AreLayersSound rs → UnitLayersKnown sheller n e.unit rs
+    → charge_by sheller m e ps ls (record { trace = Some trace; parts = fresh_parts_by sheller n e.unit; layers = rs })
+    ≡ 0
+spare_nothing support allowed agree same traced distinct again fewer sheller sound m n e ps ls rs trace placed is fit
+    hold known =
+    spare_layers support allowed agree same traced distinct sheller sound m n e ps ls rs trace placed is fit
+    ∙ known_free support agree again fewer sheller sound m n e.unit rs (holds_either ls rs) trace placed is fit hold
+    known (more_second ls rs)

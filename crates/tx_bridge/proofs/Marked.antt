@@ -114,7 +114,7 @@ pub left_sound : (b c : Bridge) → IsSoundBridge b
       parts = unmarked b.parts;
       layers = b.layers;
       shelled = b.shelled;
-      renewed = false;
+      reached = false;
       source = b.source;
     }
     → IsSoundBridge c

@@ -7,7 +7,7 @@ use Rattle.std.proofs.lemmas.List.Elements.{All-set}
 use Rattle.std.proofs.lemmas.Option.{same_Some}
 use Rattle.std.proofs.lemmas.Grind.{common_steps}
 use Rattle.std.specs.List.{All}
-use Rattle.std.specs.Prelude.{Bool, true, false, not, Option, Some, Result, Ok, Err, OnErr, slice_get}
+use Rattle.std.specs.Prelude.{Bool, true, false, not, Option, Some, Result, Ok, Err, IfOk, OnOk, OnErr, slice_get}
 use Rattle.tx_env.specs.Environments.{NameMap}
 use Rattle.tx_exec_form.specs.Evaluated.{WideTrace}
 use Rattle.tx_exec.specs.Outcomes.{wide_outcome}
@@ -505,6 +505,11 @@ ended sheller old now spares start i m flag before after spent p past =
 pub any_err : {A E P : Type 0} (r : Result A E) → P → OnErr r P
 any_err (Ok a) h = tt
 any_err (Err e) h = h
+
+pub IfOk-with : {A E P : Type 0} (r : Result A E) (Q R : A → Type 0) → (P → (a : A) → Q a → R a) → OnOk r P
+    → IfOk r Q → IfOk r R
+IfOk-with (Ok a) Q R f h q = f h a q
+IfOk-with (Err e) Q R f h q = tt
 
 pub OnErr-weaker : {A E P Q : Type 0} (r : Result A E) → (P → Q) → OnErr r P → OnErr r Q
 OnErr-weaker (Ok a) f h = tt

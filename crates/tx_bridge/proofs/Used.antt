@@ -80,7 +80,7 @@ pub sound_with : AllSupport → AllAllowed → (m : Moment) (u : DocUnit) (o : O
       parts = ps;
       layers = ls;
       shelled = shelled;
-      renewed = flag;
+      reached = flag;
       source = from;
     })
 sound_with support allowed m u o ps ls shelled flag from e once placed hold = record {

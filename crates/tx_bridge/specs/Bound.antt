@@ -1,10 +1,9 @@
--- What a refresh is charged at most, told by the units that it touches and the parts that it reaches.
-use Rattle.std.specs.Prelude.{ℕ, ◌+◌, ◌==◌, Bool, false, not, ◌&&◌, ◌||◌, if◌then◌else◌, List, [], ◌∷◌, drop, Option}
-use Rattle.std.specs.Prelude.{Some, None}
+-- What a refresh is charged at most, told by the paragraphs that are touched and the parts that aren't held.
+use Rattle.std.specs.Prelude.{ℕ, ◌+◌, Bool, not, ◌||◌, if◌then◌else◌, List, [], ◌∷◌, drop, Option, Some, None}
 use Rattle.std.specs.List.{list_all}
 use Rattle.tx_exec_form.specs.Evaluated.{WideTrace}
 use Rattle.tx_parts.specs.Opening.{Sheller}
-use Rattle.tx_parts.specs.LayerCosts.{Holder}
+use Rattle.tx_parts.specs.LayerCosts.{holds_nothing}
 use Rattle.tx_walk.specs.LayerTraces.{TreeTrace, holds_either}
 use Rattle.tx_walk.specs.Held.{is_part_held, charges}
 use Rattle.tx_units.specs.declared.kinds.Unit.{Unit as DocUnit}
@@ -23,31 +22,28 @@ is_unused m e s = not (can_be_used m e.trace || can_be_used m s.trace)
 abbrev pub are_parts_held : Sheller → Moment → DocUnit → KeptParts → UnitSpare → Bool
 are_parts_held sheller m u ps s = list_all (is_part_held (stores_with ps s.parts)) (unit_parts_by sheller m u)
 
--- nothing is left to evaluate of its layers
-abbrev pub are_layers_held : Sheller → Moment → DocUnit → List TreeTrace → UnitSpare → Bool
-are_layers_held sheller m u ls s = layers_charge (holds_either ls s.layers) sheller m u == 0
+-- a paragraph is touched where no trace of it can be used, or one of its parts isn't held
+abbrev pub is_touched : Sheller → Moment → Entry → KeptParts → UnitSpare → Bool
+is_touched sheller m e ps s = is_unused m e s || not (are_parts_held sheller m e.unit ps s)
 
--- A paragraph is touched where no trace of it can be used, or one of its parts isn't held, or a tree of its layers.
-abbrev pub is_touched : Sheller → Moment → Entry → KeptParts → List TreeTrace → UnitSpare → Bool
-is_touched sheller m e ps ls s =
-    is_unused m e s || not (are_parts_held sheller m e.unit ps s && are_layers_held sheller m e.unit ls s)
-
--- Nothing is held of layers.
-abbrev pub holds_nothing : Holder
-holds_nothing t e = false
-
--- the costs of the parts that are reached, which aren't held, and of all trees of layers
+-- the costs of the parts that aren't held, and of all trees of layers
 abbrev pub touched_bound : Sheller → Moment → DocUnit → KeptParts → UnitSpare → ℕ
 touched_bound sheller m u ps s =
     charges (stores_with ps s.parts) (unit_parts_by sheller m u) + layers_charge holds_nothing sheller m u
 
+-- what is left to evaluate of layers: the costs of the trees that aren't held
+abbrev pub layers_left : Sheller → Moment → DocUnit → List TreeTrace → UnitSpare → ℕ
+layers_left sheller m u ls s = layers_charge (holds_either ls s.layers) sheller m u
+
 -- Where the unit comes to this: all that it may take, where it is over. Else a paragraph that is touched counts with
--- its reached parts and its layers, and another unit with its cost, where nothing of it can be used.
+-- its parts that aren't held and all its layers, and one that isn't with what is left of its layers. That is nothing
+-- where the trace that can be used came with the layers that are held (`staying_law`, `spare_law`). Another unit counts
+-- with its cost, where nothing of it can be used.
 abbrev pub bound_at : Sheller → Moment → Entry → KeptParts → List TreeTrace → UnitSpare → Option WideTrace → ℕ
 bound_at sheller m e ps ls s None = allowance m
 bound_at sheller m e ps ls s (Some trace) =
     if has_parts e.unit
-    then if is_touched sheller m e ps ls s then touched_bound sheller m e.unit ps s else 0
+    then if is_touched sheller m e ps s then touched_bound sheller m e.unit ps s else layers_left sheller m e.unit ls s
     else if is_unused m e s then charge m (Some trace) else 0
 
 abbrev pub unit_bound : Sheller → Moment → Entry → KeptParts → List TreeTrace → UnitSpare → ℕ

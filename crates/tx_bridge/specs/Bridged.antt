@@ -14,7 +14,8 @@ use Rattle.tx_bridge.specs.Strays.{Stray}
 
 -- What is kept of the units, of their parts and of the trees of their layers, and of strays, and which unit each was
 -- before the last edit. Of each unit there is a flag, which says behind a refresh whether it was reached when that
--- began, and one of each part. An edit may take flags off. With them goes what names had behind the last unit then.
+-- began, whatever is spare, and one of each part. What flags are behind an edit no clause says. Beside these stands
+-- what names had behind the last unit at the last refresh, which an edit leaves.
 pub record Bridged : Type 0 where
   pub kept : Kept
   pub parts : List KeptParts

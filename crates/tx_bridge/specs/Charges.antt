@@ -68,8 +68,8 @@ charges_by sheller m (e ∷ es) (ps ∷ pss) lss ss =
 -- ---- what is known of layers
 
 -- each trace is its tree's wherever its looks have the same
-abbrev pub LayersHold : List TreeTrace → Type 0
-LayersHold ls = AllByRecursion (λ l. Supports l.trace (bare l.tree)) ls
+abbrev pub AreLayersSound : List TreeTrace → Type 0
+AreLayersSound ls = AllByRecursion (λ l. Supports l.trace (bare l.tree)) ls
 
 -- a walk of the unit at this moment, for which these are kept, evaluates no tree of a layer
 abbrev pub UnitLayersKnown : Sheller → Moment → DocUnit → List TreeTrace → Type 0

@@ -82,7 +82,7 @@ unfoldable pub ChargeBy : List (Name × WideTree) → Sheller → Kept → List 
     → ℕ
 ChargeBy start sheller kept parts layers spares = charges_by sheller (beginning_with start) kept parts layers spares
 
--- what is charged at most, told by the units that are touched and the parts that are reached
+-- what is charged at most, told by the paragraphs that are touched and the parts that aren't held
 unfoldable pub BoundBy : List (Name × WideTree) → Sheller → Kept → List KeptParts → List (List TreeTrace) → Spares → ℕ
 BoundBy start sheller kept parts layers spares = bounds_by sheller (beginning_with start) kept parts layers spares
 

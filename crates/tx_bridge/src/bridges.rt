@@ -314,7 +314,8 @@ impl Bridges {
     }
 
     /// The number of the one unit inside whose paragraph all modifications are, and which they leave nowhere, or None
-    /// where there is none. Where its paragraph alone changes, `carry_in_place` does what `carry` does.
+    /// where there is none. Where its paragraph alone changes, `carry_in_place` does what `carry` does, and keeps what is
+    /// kept of its layers besides.
     pub fn one_changed(&self, buffer: u32, mods: &[Mod]) -> Option<usize>
         ensures { MatchOption result (NoneChanged buffer mods.now (units_of self.now.kept))
             (λ i. IsOneChanged i buffer mods.now (units_of self.now.kept)) }
@@ -346,9 +347,9 @@ impl Bridges {
     }
 
     /// What `carry` does where the unit of number `changed`, which `one_changed` tells, has this tree afterwards, and
-    /// each other one stays as it is. `moved` are the parts that `moved_parts` tells. So strays whose trees hold that
-    /// unit's go, and the others stay. It goes over no lists but that of that unit's parts and that of strays, and
-    /// takes no memory.
+    /// each other one stays as it is, but that what is kept of the layers of that unit stays too. `moved` are the parts
+    /// that `moved_parts` tells. So strays whose trees hold that unit's go, and the others stay. It goes over no lists
+    /// but that of that unit's parts and that of strays, and takes no memory.
     pub fn carry_in_place(
         &mut self,
         before: &Tree,
@@ -456,8 +457,9 @@ impl Bridges {
         }
     }
 
-    /// Behind a refresh, whether the unit was reached when that began. An edit may take this off. Past the last unit it
-    /// is false.
+    /// Behind a refresh, whether the unit was reached when that began: what was kept of it couldn't be used, or its
+    /// parts weren't these, whatever is spare. What it is behind an edit no clause says. Past the last unit it is
+    /// false.
     pub fn reached(&self, i: u32) -> bool
         ensures { result ≡ unwrap_or (slice_get self.now.reached i) false }
     {

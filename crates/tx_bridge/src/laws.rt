@@ -21,7 +21,7 @@ ghost use Rattle.tx_bridge.specs.PartsKept.{fresh_parts, fresh_parts_by};
 ghost use Rattle.tx_bridge.specs.Spares.{UnitSpare, Spares};
 ghost use Rattle.tx_bridge.specs.Names.{ChargeBy, BoundBy};
 ghost use Rattle.tx_bridge.specs.Charges.{layers_charge, charge_by, charge_with, charges_with, charges_from};
-ghost use Rattle.tx_bridge.specs.Charges.{LayersHold, UnitLayersKnown};
+ghost use Rattle.tx_bridge.specs.Charges.{AreLayersSound, UnitLayersKnown};
 ghost use Rattle.tx_bridge.specs.UnitLists.{AreUnits, HasPathIfBody};
 ghost use Rattle.tx_bridge.specs.Carrying.{AllStand, AreSameBodies};
 ghost use Rattle.tx_bridge.specs.PartsKept.{KeptParts};
@@ -64,7 +64,7 @@ pub fn keeping_law()
 /// A law: where nothing is spare, `refresh_from` charges what `refresh` does. A unit is charged nothing where a trace
 /// that is spare of it can be used at the moment, and its parts are spare as well, as a refresh leaves both of them, at
 /// whatever moment. Where trees have shells, it is charged then what its layers cost, by what is kept of them and is
-/// spare.
+/// spare: nothing, where nothing was left to evaluate of them at the moment of the spare's refresh.
 pub fn spare_law()
     ensures nothing { (m : Moment) (es : Kept) (pss : List KeptParts)
         → charges_with m es pss [] ≡ charges_from m es pss }
@@ -76,6 +76,11 @@ pub fn spare_law()
         → can_be_used m (Some trace) ≡ true → charge_by sheller m e ps ls
         (record { trace = Some trace; parts = fresh_parts_by sheller n e.unit; layers = rs })
         ≡ layers_charge (holds_either ls rs) sheller m e.unit }
+    ensures again { (sheller : Sheller) → IsSheller sheller → (m n : Moment) (e : Entry) (ps : KeptParts)
+        (ls rs : List TreeTrace) (trace : WideTrace) → HasPathIfBody e.unit → outcome_of n e.unit ≡ Some trace
+        → can_be_used m (Some trace) ≡ true → AreLayersSound rs → UnitLayersKnown sheller n e.unit rs
+        → charge_by sheller m e ps ls
+        (record { trace = Some trace; parts = fresh_parts_by sheller n e.unit; layers = rs }) ≡ 0 }
 {
     trace_laws();
     opener_law();
@@ -98,7 +103,7 @@ pub fn staying_law()
         → charge_by sheller m e ks ls s ≡ layers_charge (holds_either ls s.layers) sheller m e.unit }
     ensures again { (sheller : Sheller) → IsSheller sheller → (m n : Moment) (e : Entry) (ls : List TreeTrace)
         (s : UnitSpare) (trace : WideTrace) → HasPathIfBody e.unit → e.trace ≡ Some trace
-        → outcome_of n e.unit ≡ Some trace → can_be_used m (Some trace) ≡ true → LayersHold ls
+        → outcome_of n e.unit ≡ Some trace → can_be_used m (Some trace) ≡ true → AreLayersSound ls
         → UnitLayersKnown sheller n e.unit ls → charge_by sheller m e (fresh_parts_by sheller n e.unit) ls s ≡ 0 }
     ensures nothing { (held : Holder) (m : Moment) (e : Entry) → layers_charge held no_shells m e.unit ≡ 0 }
 {
@@ -109,10 +114,11 @@ pub fn staying_law()
 }
 
 /// A law: what a refresh is charged is no more than the bound. The bound counts for each unit that is over all that it
-/// may take; for a paragraph of the body that is touched the costs of its parts that are reached, and those of all
-/// trees of its layers; for another unit, where nothing of it can be used, its cost. A paragraph is touched where
-/// neither its trace can be used nor the spare's, or where one of its parts isn't held, or a tree of its layers isn't.
-/// A part is reached where it isn't held.
+/// may take; for a paragraph of the body that is touched the costs of its parts that aren't held, and of all trees of
+/// its layers; for one that isn't what is left to evaluate of its layers; for another unit, where nothing of it can be
+/// used, its cost. A paragraph is touched where neither its trace can be used nor the spare's, or where one of its
+/// parts isn't held. What is left of the layers of one that isn't touched is nothing where the trace that can be used,
+/// its own or the spare's, came with the layers that are held, as `staying_law` and `spare_law` say (`again`).
 pub fn bound_law()
     ensures { (start : List (Name × WideTree)) (sheller : Sheller) → IsSheller sheller → (kept : Kept)
         (parts : List KeptParts) (layers : List (List TreeTrace)) (spares : Spares) → AreUnits (units_of kept)

@@ -285,7 +285,7 @@ impl Bridges {
             (KnowsLayers start.now (shells_by (O.opens opener.now)) self.old.kept self.new.layers) }
         ensures counted { IfOk result (λ n. steps.new ≡ steps.old + n) }
         ensures most { IfOk result (λ n. n ≤ MOST_VIEW_STEPS) }
-        ensures are_units { AreUnits (units_of self.old.kept) }
+        ensures are_units { OnOk result (AreUnits (units_of self.old.kept)) }
         ensures units { units_of self.new.kept ≡ units_of self.old.kept }
         ensures sources { self.new.sources ≡ self.old.sources }
         ensures stays { (i : ℕ) → slice_get self.new.reached i ≡ Some false

@@ -39,8 +39,9 @@ abbrev pub exchanged : ℕ → List Mod → WideTree → List DocUnit → Option
 exchanged buffer ms t us = option_and_then (λ u. exchanged_in buffer ms u us) (changed_by_all ms t)
 
 -- What stays of what is kept of the parts of the units us, where the new ones are vs, and are these old ones, said by
--- the way that an edit takes: where one paragraph is found to change alone, those of its parts that stay in it, and all
--- of the others. Else all of those that stay, and parts of another old unit go to the new ones in which they stand.
+-- the way that an edit takes, as private clauses have it (`Carry` says it once for both): where one paragraph is found
+-- to change alone, those of its parts that stay in it, and all of the others. Else all of those that stay, and parts
+-- of another old unit go to the new ones in which they stand.
 abbrev pub parts_after : ℕ → List Mod → WideTree → List DocUnit → List KeptParts → KeptParts → List DocUnit
     → List (Option ℕ) → List KeptParts
 parts_after buffer ms t us pss strays vs ss =

@@ -14,13 +14,14 @@ use Rattle.tx_bridge.specs.UnitLists.{AreUnits}
 use Rattle.tx_bridge.specs.PartsKept.{part_flags_by_from}
 use Rattle.tx_bridge.specs.HeldParts.{kept_parts}
 use Rattle.tx_bridge.specs.Sound.{IsSoundBridge, kept_unit, entries_of, stored_parts_in, part_flags_in, layers_in}
-use Rattle.tx_bridge.specs.Sound.{flags_of}
+use Rattle.tx_bridge.specs.Sound.{flags_of, sources_in}
 use Rattle.tx_bridge.specs.Strays.{AreStrays, strays_in}
 use Rattle.tx_bridge.proofs.Aside.{none_aside, none_tidy}
 use Rattle.tx_bridge.proofs.Lending.{have_units}
 use Rattle.tx_bridge.proofs.Partway.{any_err}
 use Rattle.tx_bridge.proofs.Refreshed.{stays_whole, refused, settled_whole}
 use Rattle.tx_bridge.proofs.Remaining.{parts_stay}
+use Rattle.tx_bridge.proofs.Sourced.{sources_stay}
 use Rattle.tx_bridge.proofs.Used.{none_there}
 use Rattle.tx_bridge.proofs.bridges.Bridges.refresh_by.Goals as goal
 
@@ -193,6 +194,15 @@ returns-clause-reached g c =
     ∙ ap (reached_by_from (shells_by (g.O.Opener.opens c.args.opener.now)) (beginning_with c.args.start.now)
     c.args.self.now.kept)
     (ap stored_parts_in c.deref_mut.ensures.value ∙ ap (λ b. b.parts) c.self.view_is)
+
+pub returns-clause-sources : goal.returns-clause-sources
+returns-clause-sources g c =
+    let whole : take c.self.inside.bridges.len (c.refresh_all.new.bridges
+    ++ drop (length c.refresh_all.new.bridges) c.self.inside.bridges.items) ≡ c.refresh_all.new.bridges =
+    grind (arith, common_steps) in
+    sources_stay c.self.inside.way _ c.self.inside.bridges.items
+    (ap sources_in whole ∙ c.in_ok-charges.ensures.sources ∙ ap sources_in c.deref_mut.ensures.value)
+    ∙ ap (λ b. b.sources) c.self.view_is
 
 pub returns-clause-end : goal.returns-clause-end
 unfolding EndFrom

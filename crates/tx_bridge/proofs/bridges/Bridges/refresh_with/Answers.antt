@@ -1,13 +1,19 @@
 use Rattle.std.proofs.Common.{◌≡◌, ◌≤◌, ℕ, arith}
-use Rattle.std.proofs.lemmas.Result.{IfOk-weaker}
 use Rattle.std.specs.Prelude.{option_copied}
 use Rattle.tx_parts.specs.Opening.{shells_by}
 use Rattle.tx_bridge.specs.Names.{ChargeBy, BoundBy}
 use Rattle.tx_bridge.specs.Spares.{spares_of}
+use Rattle.tx_bridge.proofs.Partway.{IfOk-with}
 use Rattle.tx_bridge.proofs.bridges.Bridges.refresh_with.Goals as goal
 
 pub returns-clause-bounded : goal.returns-clause-bounded
 returns-clause-bounded g c =
+    IfOk-with c.refresh_by.result
+    (λ n. n ≡ ChargeBy c.args.start.now (shells_by (g.O.Opener.opens c.args.opener.now)) c.args.self.now.kept
+    c.args.self.now.parts c.args.self.now.layers (spares_of (option_copied c.args.spare)))
+    (λ n. n ≤ BoundBy c.args.start.now (shells_by (g.O.Opener.opens c.args.opener.now)) c.args.self.now.kept
+    c.args.self.now.parts c.args.self.now.layers (spares_of (option_copied c.args.spare)))
+    (λ units n is.
     let most : ChargeBy c.args.start.now (shells_by (g.O.Opener.opens c.args.opener.now)) c.args.self.now.kept
     c.args.self.now.parts c.args.self.now.layers (spares_of (option_copied c.args.spare))
     ≤ BoundBy c.args.start.now (shells_by (g.O.Opener.opens c.args.opener.now)) c.args.self.now.kept
@@ -15,13 +21,9 @@ returns-clause-bounded g c =
     c.bound_law.ensures c.args.start.now (shells_by (g.O.Opener.opens c.args.opener.now))
     (c.opener_law.ensures.sheller (g.O.Opener.opens c.args.opener.now) (g.met.O.Opener.sound c.args.opener.now))
     c.args.self.now.kept c.args.self.now.parts c.args.self.now.layers (spares_of (option_copied c.args.spare))
-    c.refresh_by.ensures.are_units in
-    IfOk-weaker c.refresh_by.result
-    (λ n. n ≡ ChargeBy c.args.start.now (shells_by (g.O.Opener.opens c.args.opener.now)) c.args.self.now.kept
-    c.args.self.now.parts c.args.self.now.layers (spares_of (option_copied c.args.spare)))
-    (λ n. n ≤ BoundBy c.args.start.now (shells_by (g.O.Opener.opens c.args.opener.now)) c.args.self.now.kept
-    c.args.self.now.parts c.args.self.now.layers (spares_of (option_copied c.args.spare)))
-    (λ n is. omega (arith, is, most)) c.refresh_by.ensures.charge
+    units in
+    omega (arith, is, most))
+    c.refresh_by.ensures.are_units c.refresh_by.ensures.charge
 
 pub returns-clause-fresh : goal.returns-clause-fresh
 returns-clause-fresh g c = c.refresh_by.ensures.fresh
