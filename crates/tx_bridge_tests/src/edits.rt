@@ -1,5 +1,6 @@
 // Edits, and the units that are reached behind them.
-ghost use Rattle.std.specs.Prelude.{◌≡◌, ◌≤◌, [], length, IfSome};
+ghost use Rattle.std.specs.Prelude.{◌≡◌, ◌≤◌, [], Some, length, IfSome};
+ghost use Rattle.tx_mod.specs.Followed.{changed_by_all};
 ghost use Rattle.tx_bridge.specs.Carrying.{AllStand, StandsNow};
 ghost use Rattle.tx_bridge.specs.Entries.{units_of};
 ghost use Rattle.tx_bridge.specs.UnitLists.{AreUnits};
@@ -227,7 +228,31 @@ fn paragraph_in(bridges: &Bridges, changed: usize, after: &Tree) -> Option<Tree>
     after.at(unit.path.as_ref()?)?.share().ok()
 }
 
-// Carries what is kept in place, and gives the tree afterwards.
+// Carries what is kept in place, where this is the tree afterwards.
+fn carry_to<L: Ledger>(
+    alloc: Global,
+    bridges: &mut Bridges,
+    before: &Tree,
+    mods: &[Mod],
+    after: &Tree,
+    steps: &mut Steps<L>,
+) -> Option<()>
+    requires after { changed_by_all mods.now before.now ≡ Some after.now }
+    requires units { AreUnits (units_of bridges.old.kept) }
+    requires stand { AllStand before.now (units_of bridges.old.kept) }
+    requires strays { bridges.old.strays ≡ [] }
+{
+    let changed = bridges.one_changed(0, mods)?;
+    let tree = paragraph_in(bridges, changed, after)?;
+    let moved = match bridges.moved_parts(alloc, before, mods, changed, steps) {
+        Ok(moved) => moved,
+        Err(_) => return None,
+    };
+    bridges.carry_in_place(before, mods, tree, changed, moved);
+    Some(())
+}
+
+// So, and gives that tree.
 fn carry_in_place<L: Ledger>(
     alloc: Global,
     bridges: &mut Bridges,
@@ -240,13 +265,7 @@ fn carry_in_place<L: Ledger>(
     requires strays { bridges.old.strays ≡ [] }
 {
     let after = behind(alloc, before, mods, steps)?;
-    let changed = bridges.one_changed(0, mods)?;
-    let tree = paragraph_in(bridges, changed, &after)?;
-    let moved = match bridges.moved_parts(alloc, before, mods, changed, steps) {
-        Ok(moved) => moved,
-        Err(_) => return None,
-    };
-    bridges.carry_in_place(before, mods, tree, changed, moved);
+    carry_to(alloc, bridges, before, mods, &after, steps)?;
     Some(after)
 }
 
