@@ -321,7 +321,7 @@ fn ends_so<L: Ledger>(
 }
 
 // Whether they do behind what the row does.
-fn is_told<L: Ledger>(
+fn is_led<L: Ledger>(
     alloc: Global,
     bridges: &mut Bridges,
     buffers: &mut [Buffer],
@@ -340,12 +340,36 @@ fn is_told<L: Ledger>(
     ends_so(alloc, bridges.end(), row, steps)
 }
 
+// Whether so it is of these buffers.
+fn is_led_from<L: Ledger>(
+    alloc: Global,
+    buffers: &mut [Buffer],
+    row: &EndRow,
+    opener: &Boxes,
+    steps: &mut Steps<L>,
+) -> Option<bool>
+    requires some { 1 ≤ length buffers.old }
+    requires few { length buffers.old ≤ 16 }
+{
+    let mut bridges = kept_from(alloc, buffers, None, steps)?;
+    is_led(alloc, &mut bridges, buffers, row, opener, steps)
+}
+
+// Whether so it is of the row's buffers.
+fn is_told<L: Ledger>(
+    alloc: Global,
+    row: &EndRow,
+    opener: &Boxes,
+    steps: &mut Steps<L>,
+) -> Option<bool> {
+    let mut buffers = buffers_of(alloc, row.buffers, steps)?;
+    is_led_from(alloc, &mut buffers, row, opener, steps)
+}
+
 impl Row for EndRow {
     fn holds<L: Ledger>(&self, alloc: Global, steps: &mut Steps<L>) -> Option<bool> {
         let opener = Boxes::new(alloc, steps).ok()?;
-        let mut buffers = buffers_of(alloc, self.buffers, steps)?;
-        let mut bridges = kept_from(alloc, &buffers, None, steps)?;
-        is_told(alloc, &mut bridges, &mut buffers, self, &opener, steps)
+        is_told(alloc, self, &opener, steps)
     }
 }
 

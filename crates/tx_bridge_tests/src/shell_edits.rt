@@ -1,5 +1,5 @@
 // Edits of paragraphs with shells, and refreshes with the same opener behind them.
-ghost use Rattle.std.specs.Prelude.{◌≡◌, ◌≤◌, [], length};
+ghost use Rattle.std.specs.Prelude.{◌≡◌, ◌≤◌, [], length, IfSome};
 ghost use Rattle.tx_bridge.specs.Entries.{units_of};
 ghost use Rattle.tx_units.specs.Units.{units};
 
@@ -127,6 +127,14 @@ const SHELL_EDITS: &[ShellEditRow] = &[
     ),
 ];
 
+// Whether the refresh leaves this.
+fn is_left(alloc: Global, bridges: &Bridges, told: &str) -> bool {
+    match units_told(alloc, bridges) {
+        Some(words) => words.as_str() == told,
+        None => false,
+    }
+}
+
 // Whether the edit, and a refresh behind it, cost what they are to cost, and leave what they are to leave.
 fn is_led<L: Ledger>(
     alloc: Global,
@@ -144,12 +152,11 @@ fn is_led<L: Ledger>(
     row.2.go(alloc, bridges, buffers, steps)?;
     let charge = refreshed(alloc, bridges, &Refresh(row.1, true), None, opener, steps)?;
     let fresh = are_from_start(alloc, buffers, bridges, row.1, steps)?;
-    let told = units_told(alloc, bridges)?;
-    Some(charge == row.3 && fresh && told.as_str() == row.4)
+    Some(charge == row.3 && fresh && is_left(alloc, bridges, row.4))
 }
 
 // Whether so it is of these buffers.
-fn is_told<L: Ledger>(
+fn is_led_from<L: Ledger>(
     alloc: Global,
     buffers: &mut [Buffer],
     row: &ShellEditRow,
@@ -163,12 +170,34 @@ fn is_told<L: Ledger>(
     is_led(alloc, &mut bridges, buffers, row, opener, steps)
 }
 
+// The buffer of a document with these paragraphs.
+fn buffers_with<L: Ledger>(
+    alloc: Global,
+    paragraphs: &str,
+    steps: &mut Steps<L>,
+) -> Option<Vec<Buffer>>
+    ensures some { IfSome result (λ bs. 1 ≤ length bs.items) }
+    ensures few { IfSome result (λ bs. length bs.items ≤ 16) }
+{
+    let words = document_of(alloc, paragraphs)?;
+    buffers_of(alloc, words.as_str(), steps)
+}
+
+// Whether so it is of the row's buffers.
+fn is_told<L: Ledger>(
+    alloc: Global,
+    row: &ShellEditRow,
+    opener: &Boxes,
+    steps: &mut Steps<L>,
+) -> Option<bool> {
+    let mut buffers = buffers_with(alloc, row.0, steps)?;
+    is_led_from(alloc, &mut buffers, row, opener, steps)
+}
+
 impl Row for ShellEditRow {
     fn holds<L: Ledger>(&self, alloc: Global, steps: &mut Steps<L>) -> Option<bool> {
         let opener = Boxes::new(alloc, steps).ok()?;
-        let words = document_of(alloc, self.0)?;
-        let mut buffers = buffers_of(alloc, words.as_str(), steps)?;
-        is_told(alloc, &mut buffers, self, &opener, steps)
+        is_told(alloc, self, &opener, steps)
     }
 }
 
