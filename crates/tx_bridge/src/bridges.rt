@@ -314,8 +314,8 @@ impl Bridges {
     }
 
     /// The number of the one unit inside whose paragraph all modifications are, and which they leave nowhere, or None
-    /// where there is none. Where its paragraph alone changes, `carry_in_place` does what `carry` does, and keeps what is
-    /// kept of its layers besides.
+    /// where there is none. Where its paragraph alone changes, `carry_in_place` does what `carry` does, and keeps its
+    /// layers besides.
     pub fn one_changed(&self, buffer: u32, mods: &[Mod]) -> Option<usize>
         ensures { MatchOption result (NoneChanged buffer mods.now (units_of self.now.kept))
             (λ i. IsOneChanged i buffer mods.now (units_of self.now.kept)) }

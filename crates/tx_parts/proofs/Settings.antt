@@ -14,8 +14,8 @@ use Rattle.tx_origin.specs.TaggedTrees.{TaggedTree, kids_from}
 use Rattle.tx_exec_form.specs.Runs.{Before, State, Ran, Over, Done, Run, on_done, ◌>>=◌, ◌>>◌, give, pay}
 use Rattle.tx_exec_form.specs.Frames.{top}
 use Rattle.tx_exec_form.specs.Words.{row_of}
-use Rattle.tx_exec_form.specs.Rows.{ex, Sets, set_all, sizes, kept, kept_of, with_body, with_parts, is_odd, if_text, row}
-use Rattle.tx_exec_form.specs.Rows.{wrong}
+use Rattle.tx_exec_form.specs.Rows.{ex, Sets, set_all, sizes, kept, kept_of, with_body, with_parts, is_odd, if_text}
+use Rattle.tx_exec_form.specs.Rows.{row, wrong}
 use Rattle.tx_exec_form.specs.declared.rows.Row.TheVariants as rows
 use Rattle.tx_exec_form.specs.Evaluated.{WideTrace, traced, evaluated_in}
 use Rattle.tx_exec_form.proofs.Tracing.{allowed, supports, agrees}

@@ -8,7 +8,7 @@ use std::marker::Brand;
 use std::sync::ledger::{Blank, Ledger};
 use std::test::Fail;
 use tx_base::Steps;
-use tx_samples::number_in;
+use tx_samples::told_work;
 use tx_session::Session;
 
 // A document in the Scheme syntax, the lines of a script, and the most that `work` prints behind them.
@@ -34,7 +34,7 @@ const ROWS: &[Row] = &[
 
 // What `work` prints.
 fn work_of<L: Ledger>(alloc: Global, session: &mut Session, steps: &mut Steps<L>) -> Option<u64> {
-    number_in(&answered(alloc, session, "work", steps)?)
+    told_work(&answered(alloc, session, "work", steps)?)
 }
 
 // What `work` prints behind the lines of a script.

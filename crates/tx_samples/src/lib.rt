@@ -48,7 +48,7 @@ pub fn told_buffers<L: Ledger>(
 }
 
 /// The number in a reply that is one line, `work N`. None where it is none.
-pub fn number_in(reply: &[u8]) -> Option<u64> {
+pub fn told_work(reply: &[u8]) -> Option<u64> {
     let (word, rest) = str::from_utf8(reply).ok()?.split_once(' ')?;
     let (number, _) = rest.split_once('\n')?;
     if word == "work" {

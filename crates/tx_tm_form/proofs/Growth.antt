@@ -8,7 +8,7 @@ use Rattle.tx_tm_form.specs.declared.bytes.White.TheVariants.{Spaces, Line, Brea
 use Rattle.tx_tm_form.specs.declared.places.TagPlace.{TagPlace}
 use Rattle.tx_tm_form.specs.declared.places.Stage.{Stage}
 use Rattle.tx_tm_form.specs.declared.places.Stage.TheVariants.{Empty, Alone, Ordinary}
-use Rattle.tx_tm_form.specs.Bytes.{plus}
+use Rattle.tx_tm_form.specs.Bytes.{joint_run}
 use Rattle.tx_tm_form.specs.Parts.{ContentPart, gap, text, tag, leaf_before, texts_and_tags, concat_of, content}
 use Rattle.tx_tm_form.specs.Parts.{run_before}
 use Rattle.tx_tm_form.specs.Parts.{with_runs, from_first, to_last, into_first, separate, parts_by_paragraph}
@@ -63,19 +63,19 @@ grows_append (p ∷ ps) qs g = grows_append ps qs (grow g p)
 
 -- ---- runs
 
-plus_assoc : (u v w : White) → plus (plus u v) w ≡ plus u (plus v w)
-plus_assoc Spaces v w = refl
-plus_assoc Line Spaces w = refl
-plus_assoc Line Line Spaces = refl
-plus_assoc Line Line Line = refl
-plus_assoc Line Line Break = refl
-plus_assoc Line Break w = refl
-plus_assoc Break v w = refl
+joint_run_assoc : (u v w : White) → joint_run (joint_run u v) w ≡ joint_run u (joint_run v w)
+joint_run_assoc Spaces v w = refl
+joint_run_assoc Line Spaces w = refl
+joint_run_assoc Line Line Spaces = refl
+joint_run_assoc Line Line Line = refl
+joint_run_assoc Line Line Break = refl
+joint_run_assoc Line Break w = refl
+joint_run_assoc Break v w = refl
 
 two_runs : (v w : White) (ps : List ContentPart)
-    → run_before (gap v) (run_before (gap w) ps) ≡ run_before (gap (plus v w)) ps
+    → run_before (gap v) (run_before (gap w) ps) ≡ run_before (gap (joint_run v w)) ps
 two_runs v w [] = refl
-two_runs v w (gap u ∷ ps) = ap (λ z. gap z ∷ ps) (sym (plus_assoc v w u))
+two_runs v w (gap u ∷ ps) = ap (λ z. gap z ∷ ps) (sym (joint_run_assoc v w u))
 two_runs v w (text x ∷ ps) = refl
 two_runs v w (tag c t ∷ ps) = refl
 
@@ -291,7 +291,7 @@ block_grows (gap w ∷ ps) f q c None =
     ap (λ b. tree_of_block (widens b ps)) (white_aside f c q (block_with f q c None) w) ∙ block_grows ps f q c (Some w)
 block_grows (gap w ∷ ps) f q c (Some v) =
     ap (λ b. tree_of_block (widens b ps)) (white_aside f c q (block_with f q c (Some v)) w)
-    ∙ block_grows ps f q c (Some (plus v w))
+    ∙ block_grows ps f q c (Some (joint_run v w))
     ∙ ap (λ z. tree_of_document (f ++ joined (q ∷ c) (parts_by_paragraph (to_last z))))
     (sym (two_runs v w (with_runs ps)))
 block_grows (text x ∷ ps) f q c None = beside_part ps f q c (text x) refl (block_grows ps f q (c ++ text x ∷ []) None)
@@ -338,17 +338,18 @@ gathers x (tag c t ∷ ps) =
     gathers (record { entries = x.entries ++ record { before = x.run; collects = c; tree = t } ∷ []; run = None }) ps
 gathers x (text s ∷ ps) = gathers x ps
 
-longer_plus : (r : Option White) (v w : White) → longer r (plus v w) ≡ plus (longer r v) w
-longer_plus None v w = refl
-longer_plus (Some u) v w = sym (plus_assoc u v w)
+longer_joint_run : (r : Option White) (v w : White) → longer r (joint_run v w) ≡ joint_run (longer r v) w
+longer_joint_run None v w = refl
+longer_joint_run (Some u) v w = sym (joint_run_assoc u v w)
 
 two_whites : (s : Stage) (f : List WideTree) (g : Inline) (r : Option White) (v w : White)
-    → with_white s (record { full = f; now = g; run = r; stage = s }) (plus v w) ≡ widen
+    → with_white s (record { full = f; now = g; run = r; stage = s }) (joint_run v w) ≡ widen
     (with_white s (record { full = f; now = g; run = r; stage = s }) v) (gap w)
 two_whites Empty f g r v w = refl
-two_whites Alone f g r v w = ap (λ z. record { full = f; now = g; run = Some z; stage = Alone }) (longer_plus r v w)
+two_whites Alone f g r v w =
+    ap (λ z. record { full = f; now = g; run = Some z; stage = Alone }) (longer_joint_run r v w)
 two_whites Ordinary f g r v w =
-    ap (λ z. record { full = f; now = g; run = Some z; stage = Ordinary }) (longer_plus r v w)
+    ap (λ z. record { full = f; now = g; run = Some z; stage = Ordinary }) (longer_joint_run r v w)
 
 pub longer_run : (b : Block) (r : Option White) (w : White)
     → behind_run b (Some (longer r w)) ≡ widen (behind_run b r) (gap w)

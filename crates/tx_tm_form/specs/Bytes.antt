@@ -71,9 +71,9 @@ abbrev pub white_of : ℕ → White
 white_of b = if b == 10 then Line else Spaces
 
 -- two runs side by side are one, with the bytes 10 of both
-abbrev pub plus : White → White → White
-plus Spaces w = w
-plus Line Spaces = Line
-plus Line Line = Break
-plus Line Break = Break
-plus Break w = Break
+abbrev pub joint_run : White → White → White
+joint_run Spaces w = w
+joint_run Line Spaces = Line
+joint_run Line Line = Break
+joint_run Line Break = Break
+joint_run Break w = Break

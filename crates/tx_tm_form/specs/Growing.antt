@@ -6,7 +6,7 @@ use Rattle.tx_tm_form.specs.declared.bytes.White.TheVariants.{Break}
 use Rattle.tx_tm_form.specs.declared.places.TagPlace.{TagPlace}
 use Rattle.tx_tm_form.specs.declared.places.Stage.{Stage}
 use Rattle.tx_tm_form.specs.declared.places.Stage.TheVariants.{Empty, Alone, Ordinary}
-use Rattle.tx_tm_form.specs.Bytes.{plus}
+use Rattle.tx_tm_form.specs.Bytes.{joint_run}
 use Rattle.tx_tm_form.specs.Parts.{ContentPart, gap, text, tag, leaf_before, concat_of}
 use Rattle.tx_tm_form.specs.Parts.{document_label, collection_label, same_bytes, none}
 
@@ -43,7 +43,7 @@ no_paragraphs = record { full = []; now = no_parts; run = None; stage = Empty }
 
 abbrev pub longer : Option White → White → White
 longer None w = w
-longer (Some v) w = plus v w
+longer (Some v) w = joint_run v w
 
 abbrev pub with_white : Stage → Block → White → Block
 with_white Empty b w = b

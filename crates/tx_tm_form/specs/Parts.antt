@@ -1,7 +1,7 @@
 -- What content, blocks and tags stand for.
 use Rattle.std.specs.Prelude.{ℕ, Bool, true, false, ◌==◌, ◌&&◌, if◌then◌else◌, List, [], ◌∷◌, ◌++◌, map}
 use Rattle.tx_tree.specs.WideTree.{WideTree, leaf, node, forest}
-use Rattle.tx_tm_form.specs.Bytes.{plus}
+use Rattle.tx_tm_form.specs.Bytes.{joint_run}
 use Rattle.tx_tm_form.specs.declared.bytes.White.{White}
 use Rattle.tx_tm_form.specs.declared.bytes.White.TheVariants.{Break}
 
@@ -50,7 +50,7 @@ content ps = concat_of (texts_and_tags false [] ps)
 
 -- white side by side is one run
 abbrev pub run_before : ContentPart → List ContentPart → List ContentPart
-run_before (gap v) (gap w ∷ ps) = gap (plus v w) ∷ ps
+run_before (gap v) (gap w ∷ ps) = gap (joint_run v w) ∷ ps
 run_before p ps = p ∷ ps
 
 abbrev pub with_runs : List ContentPart → List ContentPart

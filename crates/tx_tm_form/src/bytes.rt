@@ -1,6 +1,6 @@
 // What a byte is to the syntax.
 ghost use Rattle.std.specs.Prelude.{◌≡◌};
-ghost use Rattle.tx_tm_form.specs.Bytes.{kind_of, escape_of, white_of, plus};
+ghost use Rattle.tx_tm_form.specs.Bytes.{kind_of, escape_of, white_of, joint_run};
 
 use tx_tree::is_label_byte;
 
@@ -103,8 +103,8 @@ pub fn white_of(byte: u8) -> White
 
 impl White {
     /// The run of both.
-    pub fn plus(self, behind: White) -> White
-        ensures { result ≡ plus self behind }
+    pub fn joint_run(self, behind: White) -> White
+        ensures { result ≡ joint_run self behind }
     {
         match (self, behind) {
             (White::Spaces, _) => behind,

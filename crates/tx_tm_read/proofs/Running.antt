@@ -10,7 +10,7 @@ use Rattle.tx_tm_form.specs.declared.places.Stage.TheVariants.{Empty, Alone, Ord
 use Rattle.tx_tree.specs.Labels.{is_label_byte}
 use Rattle.tx_tm_form.specs.declared.bytes.White.{White}
 use Rattle.tx_tm_form.specs.declared.bytes.White.TheVariants.{Spaces, Line, Break}
-use Rattle.tx_tm_form.specs.Bytes.{kind_of, is_plain, is_white, white_of, plus}
+use Rattle.tx_tm_form.specs.Bytes.{kind_of, is_plain, is_white, white_of, joint_run}
 use Rattle.tx_tm_form.specs.declared.places.TagForm.TheVariants.{Short}
 use Rattle.tx_tm_form.specs.Tokens.{head, label_end, written}
 use Rattle.tx_tm_form.specs.Parts.{gap, text}
@@ -80,21 +80,21 @@ put_spaced (collecting t) x b = ap blocks (widen_spaced (as_block t).stage (as_b
 
 -- ---- two runs of white side by side are one
 
-plus_plus : (u v w : White) → plus (plus u v) w ≡ plus u (plus v w)
-plus_plus Spaces v w = refl
-plus_plus Line Spaces w = refl
-plus_plus Line Line Spaces = refl
-plus_plus Line Line Line = refl
-plus_plus Line Line Break = refl
-plus_plus Line Break w = refl
-plus_plus Break v w = refl
+joint_run_twice : (u v w : White) → joint_run (joint_run u v) w ≡ joint_run u (joint_run v w)
+joint_run_twice Spaces v w = refl
+joint_run_twice Line Spaces w = refl
+joint_run_twice Line Line Spaces = refl
+joint_run_twice Line Line Line = refl
+joint_run_twice Line Line Break = refl
+joint_run_twice Line Break w = refl
+joint_run_twice Break v w = refl
 
-longer_both : (r : Option White) (v w : White) → longer (Some (longer r v)) w ≡ longer r (plus v w)
+longer_both : (r : Option White) (v w : White) → longer (Some (longer r v)) w ≡ longer r (joint_run v w)
 longer_both None v w = refl
-longer_both (Some u) v w = plus_plus u v w
+longer_both (Some u) v w = joint_run_twice u v w
 
 gaps_widen : (s : Stage) (b : Block) (v w : White) → b.stage ≡ s
-    → widen (with_white s b v) (gap w) ≡ with_white s b (plus v w)
+    → widen (with_white s b v) (gap w) ≡ with_white s b (joint_run v w)
 gaps_widen Empty b v w e = ap (λ s. with_white s b w) e
 gaps_widen Alone b v w e =
     ap (λ s. with_white s (record { full = b.full; now = b.now; run = Some (longer b.run v); stage = b.stage }) w) e
@@ -103,7 +103,7 @@ gaps_widen Ordinary b v w e =
     ap (λ s. with_white s (record { full = b.full; now = b.now; run = Some (longer b.run v); stage = b.stage }) w) e
     ∙ ap (λ r. record { full = b.full; now = b.now; run = Some r; stage = b.stage }) (longer_both b.run v w)
 
-put_gaps : (c : Content) (v w : White) → put_part (put_part c (gap v)) (gap w) ≡ put_part c (gap (plus v w))
+put_gaps : (c : Content) (v w : White) → put_part (put_part c (gap v)) (gap w) ≡ put_part c (gap (joint_run v w))
 put_gaps (inline p g) v w = refl
 put_gaps (blocks b) v w = ap blocks (gaps_widen b.stage b v w refl)
 put_gaps (collecting t) v w =
@@ -142,13 +142,13 @@ words_run _ j c fs (space_and_byte x b w h) =
 white_run : (x : List ℕ) (v : White) (b : ℕ) (c : Content) (fs : List Open) → IsWhiteRun x v
     → is_white (kind_of b) ≡ true
     → run keep (reader_between_words false c fs) (x ++ b ∷ [])
-    ≡ reader_between_words false (put_part c (gap (plus v (white_of b)))) fs
+    ≡ reader_between_words false (put_part c (gap (joint_run v (white_of b)))) fs
 white_run _ _ b c fs no_white h = white_step b c fs h
 white_run _ _ b c fs (white_more x v a w k) h =
     run_append (x ++ a ∷ []) (b ∷ []) (reader_between_words false c fs)
     ∙ ap (λ z. run keep z (b ∷ [])) (white_run x v a c fs w k)
-    ∙ white_step b (put_part c (gap (plus v (white_of a)))) fs h
-    ∙ ap (λ d. reader_between_words false d fs) (put_gaps c (plus v (white_of a)) (white_of b))
+    ∙ white_step b (put_part c (gap (joint_run v (white_of a)))) fs h
+    ∙ ap (λ d. reader_between_words false d fs) (put_gaps c (joint_run v (white_of a)) (white_of b))
 
 whites_run : (x : List ℕ) (v : White) (c : Content) (fs : List Open) → IsWhiteRun x v → 0 < length x
     → run keep (reader_between_words false c fs) x ≡ reader_between_words false (put_part c (gap v)) fs

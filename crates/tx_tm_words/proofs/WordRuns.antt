@@ -4,7 +4,7 @@ use Rattle.std.proofs.Common.{get_or, zero, suc, sym, ap, subst, ◌∙◌}
 use Rattle.std.proofs.Common.{append_assoc, arith}
 use Rattle.std.proofs.lemmas.List.{take_more}
 use Rattle.tx_tm_form.specs.declared.bytes.White.{White}
-use Rattle.tx_tm_form.specs.Bytes.{kind_of, is_plain, is_white, white_of, plus}
+use Rattle.tx_tm_form.specs.Bytes.{kind_of, is_plain, is_white, white_of, joint_run}
 use Rattle.tx_tm_words.specs.Runs.{AreWords, one_byte, byte_more, space_and_byte, IsWhiteRun, white_more}
 
 pub word_next : (x : List ℕ) (i b : ℕ) → (0 < i → AreWords (take i x)) → i < length x → get_or x i 0 ≡ b
@@ -26,8 +26,8 @@ word_behind_space x i b w n s e k =
     subst (λ n. AreWords (take n x)) same (subst AreWords (sym two) (space_and_byte (take i x) b w k))
 
 pub white_next : (x : List ℕ) (i b : ℕ) (v u : White) → IsWhiteRun (take i x) v → i < length x → get_or x i 0 ≡ b
-    → is_white (kind_of b) ≡ true → u ≡ plus v (white_of b) → IsWhiteRun (take (i + 1) x) u
+    → is_white (kind_of b) ≡ true → u ≡ joint_run v (white_of b) → IsWhiteRun (take (i + 1) x) u
 white_next x i b v u w n e k d =
     subst (IsWhiteRun (take (i + 1) x)) (sym d)
-    (subst (λ y. IsWhiteRun y (plus v (white_of b)))
+    (subst (λ y. IsWhiteRun y (joint_run v (white_of b)))
     (sym (take_more x i 0 n ∙ ap (λ z. take i x ++ z ∷ []) e)) (white_more (take i x) v b w k))

@@ -34,6 +34,6 @@ pub fn longer(run: Option<White>, white: White) -> White
 {
     match run {
         None => white,
-        Some(before) => before.plus(white),
+        Some(before) => before.joint_run(white),
     }
 }

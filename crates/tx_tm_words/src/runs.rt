@@ -110,7 +110,7 @@ pub fn white_front(bytes: &[u8]) -> (usize, White)
     let mut white = White::Spaces;
     for (i, byte) in bytes.iter().enumerate() {
         if is_white(*byte) {
-            white = white.plus(white_of(*byte));
+            white = white.joint_run(white_of(*byte));
         } else {
             return (i, white);
         }

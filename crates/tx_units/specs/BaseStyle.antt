@@ -18,8 +18,8 @@ value name = tag (codes "value") (leaf name ∷ [])
 abbrev arg : List ℕ → WideTree
 arg name = tag (codes "arg") (leaf name ∷ [])
 
-abbrev plus : WideTree → List ℕ → WideTree
-plus t text = tag (codes "plus") (t ∷ leaf text ∷ [])
+abbrev plus_tag : WideTree → List ℕ → WideTree
+plus_tag t text = tag (codes "plus") (t ∷ leaf text ∷ [])
 
 abbrev joined : List WideTree → WideTree
 joined parts = tag (codes "concat") parts
@@ -34,11 +34,11 @@ styled name text t = tag (codes "with") (leaf name ∷ leaf text ∷ t ∷ [])
 
 -- the name has one more than it had
 abbrev counted : List ℕ → WideTree
-counted name = assign_tag (leaf name) (plus (value name) (codes "1"))
+counted name = assign_tag (leaf name) (plus_tag (value name) (codes "1"))
 
 -- what a margin has, and so much more
 abbrev wider : List ℕ → List ℕ → List WideTree
-wider margin by = leaf margin ∷ plus (value margin) by ∷ []
+wider margin by = leaf margin ∷ plus_tag (value margin) by ∷ []
 
 -- a list whose items are of this kind, counted from one
 abbrev list_of : List ℕ → WideTree

@@ -9,7 +9,7 @@ use std::test::Fail;
 use tx_base::Steps;
 use tx_generated::generated;
 use tx_outside::{MemSink, MemSource, MemStore, StoredFile};
-use tx_samples::number_in;
+use tx_samples::told_work;
 
 const SCRIPT: &[u8] = b"show\ninsert / 0 (tuple \"top\")\npage 1\nwork\n";
 
@@ -40,7 +40,7 @@ fn last_digit(written: &[u8]) -> Option<u64> {
     if written.len() < line {
         return None;
     }
-    number_in(&written[written.len() - line..])
+    told_work(&written[written.len() - line..])
 }
 
 fn work_of<L: Ledger>(alloc: Global, steps: &mut Steps<L>) -> Option<u64> {

@@ -4,7 +4,7 @@ use std::sync::ledger::Ledger;
 use tx_base::Steps;
 use tx_cmd::Command;
 use tx_outside::{MemSink, MemStore};
-use tx_samples::number_in;
+use tx_samples::told_work;
 use tx_session::Session;
 
 // Adds the reply to a command, over a store without files.
@@ -44,5 +44,5 @@ pub(crate) fn work<L: Ledger>(
 ) -> Option<u64> {
     let mut out = sink(alloc)?;
     answer(alloc, session, &Command::Work, &mut out, steps)?;
-    number_in(out.written())
+    told_work(out.written())
 }

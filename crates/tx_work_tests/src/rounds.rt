@@ -7,7 +7,7 @@ use std::sync::ledger::{Blank, Ledger};
 use std::test::Fail;
 use tx_base::Steps;
 use tx_outside::{MemSink, MemSource, MemStore, StoredFile};
-use tx_samples::number_in;
+use tx_samples::told_work;
 use tx_session::{Status, run};
 
 // How many paragraphs never end, or have a part that doesn't.
@@ -166,7 +166,7 @@ fn last_number(written: &[u8], before: &[u8]) -> Option<u64> {
     }
     let (front, last) = written.split_at(before.len());
     if front == before {
-        number_in(last)
+        told_work(last)
     } else {
         None
     }

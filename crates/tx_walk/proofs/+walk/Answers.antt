@@ -57,8 +57,7 @@ pub walking::walk_tree-returns-then-levels-eq0-clause-counted :
     goal.walking::walk_tree-returns-then-levels-eq0-clause-counted
 walking::walk_tree-returns-then-levels-eq0-clause-counted g t c =
     nothing_more c.args.steps.now (low_charged (guide_of (g.O.Opener.opens c.args.opener.now) c.args.kept.now)
-    c.args.levels c.args.left c.args.path
-    c.args.t.now (before_of c.args.env.now) c.if-levels-eq0.true)
+    c.args.levels c.args.left c.args.path c.args.t.now (before_of c.args.env.now) c.if-levels-eq0.true)
 
 pub walking::one_child-walk_tree-requires : goal.walking::one_child-walk_tree-requires
 walking::one_child-walk_tree-requires g t c κs within =
@@ -75,24 +74,20 @@ walking::one_child-add_outcome-requires-clause-cost g t c =
 
 pub walking::one_child-returns-clause-comes : goal.walking::one_child-returns-clause-comes
 walking::one_child-returns-clause-comes g t c =
-    IfOk-weaker c.add_outcome.result _ _
-    (λ went h. child_comes (guide_of (g.O.Opener.opens c.args.opener.now) c.args.kept.now) c.args.levels c.args.left
-    c.args.path.now c.args.i
-    c.args.t.now (so_far_of c.args.joined.now) (so_far_of c.add_outcome.new.self) (before_of c.args.env.now)
-    (before_of c.walk_tree.new.env) c.args.done.now.items c.walk_tree.new.done.items c.args.steps.now
-    c.walk_tree.new.steps c.args.progress.now.layers.items c.walk_tree.new.progress.layers.items c.in_ok-below.below
-    (c.args.left - c.args.joined.now.cost)
-    (wide_outcome c.in_ok-outcome.outcome) went c.in_ok-below.ensures refl
-    c.in_ok-outcome.ensures.exact c.in_ok-outcome.ensures.behind c.in_ok-outcome.ensures.added
-    c.in_ok-outcome.ensures.counted c.in_ok-outcome.ensures.layers h)
-    c.add_outcome.ensures
+    IfOk-weaker c.add_outcome.result _ _ (λ went h. child_comes (guide_of (g.O.Opener.opens c.args.opener.now)
+    c.args.kept.now) c.args.levels c.args.left c.args.path.now c.args.i c.args.t.now (so_far_of c.args.joined.now)
+    (so_far_of c.add_outcome.new.self) (before_of c.args.env.now) (before_of c.walk_tree.new.env) c.args.done.now.items
+    c.walk_tree.new.done.items c.args.steps.now c.walk_tree.new.steps c.args.progress.now.layers.items
+    c.walk_tree.new.progress.layers.items c.in_ok-below.below (c.args.left - c.args.joined.now.cost) (wide_outcome
+    c.in_ok-outcome.outcome) went c.in_ok-below.ensures refl c.in_ok-outcome.ensures.exact
+    c.in_ok-outcome.ensures.behind c.in_ok-outcome.ensures.added c.in_ok-outcome.ensures.counted
+    c.in_ok-outcome.ensures.layers h) c.add_outcome.ensures
 
 pub walking::children-loop-i-init : goal.walking::children-loop-i-init
 walking::children-loop-i-init g t c = record {
   going = begins (guide_of (g.O.Opener.opens c.args.opener.now) c.args.kept.now) c.args.levels c.args.left
-      c.args.path.now
-      (children_of c.args.t.now) (stage_of c.args.joined.now c.args.env.now c.args.done.now.items c.args.steps.now
-      c.args.progress.now.layers.items)
+      c.args.path.now (children_of c.args.t.now) (stage_of c.args.joined.now c.args.env.now c.args.done.now.items
+      c.args.steps.now c.args.progress.now.layers.items)
       c.requires.nothing;
   done_ready = c.requires.done_ready;
   scopes = refl;
@@ -103,12 +98,10 @@ pub walking::children-loop-i-preserved : goal.walking::children-loop-i-preserved
 walking::children-loop-i-preserved g t c = record {
   going = next (guide_of (g.O.Opener.opens c.args.opener.now) c.args.kept.now) c.args.levels c.args.left c.args.path.now
       (children_of c.args.t.now) (stage_of c.args.joined.now c.args.env.now c.args.done.now.items c.args.steps.now
-      c.args.progress.now.layers.items)
-      c.loop-i.i (stage_of c.loop-i.joined c.loop-i.env c.loop-i.done.items c.loop-i.steps
-      c.loop-i.progress.layers.items) c.loop-i.invariant.going
+      c.args.progress.now.layers.items) c.loop-i.i (stage_of c.loop-i.joined c.loop-i.env c.loop-i.done.items
+      c.loop-i.steps c.loop-i.progress.layers.items) c.loop-i.invariant.going
       c.in-Some.kid.now c.in-Some.ensures (stage_of c.one_child.new.joined c.one_child.new.env
-      c.one_child.new.done.items c.one_child.new.steps
-      c.one_child.new.progress.layers.items)
+      c.one_child.new.done.items c.one_child.new.steps c.one_child.new.progress.layers.items)
       (rw c.if-not-went.false at c.in_ok-went.ensures.comes);
   done_ready = c.in_ok-went.ensures.done_ready;
   scopes = c.in_ok-went.ensures.scopes ∙ c.loop-i.invariant.scopes;
@@ -128,46 +121,43 @@ pub walking::children-returns-then-not-went-clause-comes : goal.walking::childre
 walking::children-returns-then-not-went-clause-comes g t c =
     stops (guide_of (g.O.Opener.opens c.args.opener.now) c.args.kept.now) c.args.levels c.args.left c.args.path.now
     (children_of c.args.t.now) (stage_of c.args.joined.now c.args.env.now c.args.done.now.items c.args.steps.now
-    c.args.progress.now.layers.items)
-    c.loop-i.i (stage_of c.loop-i.joined c.loop-i.env c.loop-i.done.items c.loop-i.steps
-    c.loop-i.progress.layers.items) c.loop-i.invariant.going
+    c.args.progress.now.layers.items) c.loop-i.i (stage_of c.loop-i.joined c.loop-i.env c.loop-i.done.items
+    c.loop-i.steps c.loop-i.progress.layers.items) c.loop-i.invariant.going
     c.in-Some.kid.now c.in-Some.ensures (stage_of c.one_child.new.joined c.one_child.new.env
-    c.one_child.new.done.items c.one_child.new.steps
-    c.one_child.new.progress.layers.items)
-    (rw c.if-not-went.true at c.in_ok-went.ensures.comes)
+    c.one_child.new.done.items c.one_child.new.steps c.one_child.new.progress.layers.items) (rw c.if-not-went.true at
+    c.in_ok-went.ensures.comes)
 
 pub walking::children-returns-clause-comes : goal.walking::children-returns-clause-comes
 walking::children-returns-clause-comes g t c =
     ends (guide_of (g.O.Opener.opens c.args.opener.now) c.args.kept.now) c.args.levels c.args.left c.args.path.now
     (children_of c.args.t.now) (stage_of c.args.joined.now c.args.env.now c.args.done.now.items c.args.steps.now
-    c.args.progress.now.layers.items)
-    c.loop-i.i (stage_of c.loop-i.joined c.loop-i.env c.loop-i.done.items c.loop-i.steps
-    c.loop-i.progress.layers.items) c.loop-i.invariant.going
-    (omega (arith, c.loop-i-test.false, c.loop-i.auto.i-end, c.arity-i-end.ensures))
+    c.args.progress.now.layers.items) c.loop-i.i (stage_of c.loop-i.joined c.loop-i.env c.loop-i.done.items
+    c.loop-i.steps c.loop-i.progress.layers.items) c.loop-i.invariant.going (omega (
+      arith,
+      c.loop-i-test.false,
+      c.loop-i.auto.i-end,
+      c.arity-i-end.ensures,
+    ))
 
 pub walking::document-returns-then-left-eq0-clause-exact : goal.walking::document-returns-then-left-eq0-clause-exact
 walking::document-returns-then-left-eq0-clause-exact g t c =
-    sym (ap (option_map (trace_under c.args.path.now))
-    (document_over c.args.levels c.args.left c.args.path.now c.args.t.now (before_of c.args.env.now) c.requires.opens
-    c.requires.some c.if-left-eq0.true))
+    sym (ap (option_map (trace_under c.args.path.now)) (document_over c.args.levels c.args.left c.args.path.now
+    c.args.t.now (before_of c.args.env.now) c.requires.opens c.requires.some c.if-left-eq0.true))
 
 pub walking::document-returns-then-left-eq0-clause-counted : goal.walking::document-returns-then-left-eq0-clause-counted
 walking::document-returns-then-left-eq0-clause-counted g t c =
     nothing_more c.args.steps.now (none_charged (guide_of (g.O.Opener.opens c.args.opener.now) c.args.kept.now)
     (sheller_is (g.O.Opener.opens c.args.opener.now) (g.met.O.Opener.sound c.args.opener.now)) c.args.levels c.args.left
-    c.args.path.now
-    c.args.t.now (before_of c.args.env.now) c.if-left-eq0.true)
+    c.args.path.now c.args.t.now (before_of c.args.env.now) c.if-left-eq0.true)
 
 pub walking::document-document_of-requires : goal.walking::document-document_of-requires
 walking::document-document_of-requires g t c = record {
   label = document_label c.args.t.now c.requires.opens;
   fits = comes_fits (guide_of (g.O.Opener.opens c.args.opener.now) c.args.kept.now) c.args.levels c.args.left
-      c.args.path.now c.args.t.now
-      c.requires.opens
-      c.requires.some (omega arith) (so_far_of c.new-joined.result) (so_far_of c.children.new.joined)
-      (before_of c.args.env.now) (before_of c.children.new.env) c.args.done.now.items c.children.new.done.items
-      c.args.steps.now c.children.new.steps c.args.progress.now.layers.items c.children.new.progress.layers.items
-      c.requires.unshelled c.in_ok-went.went c.in_ok-went.ensures.comes
+      c.args.path.now c.args.t.now c.requires.opens c.requires.some (omega arith) (so_far_of c.new-joined.result)
+      (so_far_of c.children.new.joined) (before_of c.args.env.now) (before_of c.children.new.env) c.args.done.now.items
+      c.children.new.done.items c.args.steps.now c.children.new.steps c.args.progress.now.layers.items
+      c.children.new.progress.layers.items c.requires.unshelled c.in_ok-went.went c.in_ok-went.ensures.comes
       c.requires.levels
       c.requires.left c.size-size.ensures.within;
 }
@@ -175,67 +165,52 @@ walking::document-document_of-requires g t c = record {
 pub walking::document-returns-clause-exact : goal.walking::document-returns-clause-exact
 walking::document-returns-clause-exact g t c =
     IfOk-weaker c.document_of.result _ _ (λ o h. h ∙ comes_exact (guide_of (g.O.Opener.opens c.args.opener.now)
-    c.args.kept.now) c.args.levels c.args.left
-    c.args.path.now c.args.t.now c.requires.opens
-    c.requires.some (omega arith) (so_far_of c.new-joined.result) (so_far_of c.children.new.joined)
-    (before_of c.args.env.now) (before_of c.children.new.env) c.args.done.now.items c.children.new.done.items
-    c.args.steps.now c.children.new.steps c.args.progress.now.layers.items c.children.new.progress.layers.items
-    c.requires.unshelled c.in_ok-went.went c.in_ok-went.ensures.comes)
-    c.document_of.ensures.outcome
+    c.args.kept.now) c.args.levels c.args.left c.args.path.now c.args.t.now c.requires.opens c.requires.some (omega
+    arith) (so_far_of c.new-joined.result) (so_far_of c.children.new.joined) (before_of c.args.env.now) (before_of
+    c.children.new.env) c.args.done.now.items c.children.new.done.items c.args.steps.now c.children.new.steps
+    c.args.progress.now.layers.items c.children.new.progress.layers.items c.requires.unshelled c.in_ok-went.went
+    c.in_ok-went.ensures.comes) c.document_of.ensures.outcome
 
 pub walking::document-returns-clause-behind : goal.walking::document-returns-clause-behind
 walking::document-returns-clause-behind g t c =
-    IfOk-weaker c.document_of.result _ _
-    (λ o h. subst (IsBehind (before_of c.args.env.now) (before_of c.children.new.env)) (sym h)
-    (comes_behind (guide_of (g.O.Opener.opens c.args.opener.now) c.args.kept.now) c.args.levels c.args.left
-    c.args.path.now c.args.t.now
-    c.requires.opens
-    c.requires.some (omega arith) (so_far_of c.new-joined.result) (so_far_of c.children.new.joined)
-    (before_of c.args.env.now) (before_of c.children.new.env) c.args.done.now.items c.children.new.done.items
-    c.args.steps.now c.children.new.steps c.args.progress.now.layers.items c.children.new.progress.layers.items
-    c.requires.unshelled c.in_ok-went.went c.in_ok-went.ensures.comes))
-    c.document_of.ensures.outcome
+    IfOk-weaker c.document_of.result _ _ (λ o h. subst (IsBehind (before_of c.args.env.now) (before_of
+    c.children.new.env)) (sym h) (comes_behind (guide_of (g.O.Opener.opens c.args.opener.now) c.args.kept.now)
+    c.args.levels c.args.left c.args.path.now c.args.t.now c.requires.opens c.requires.some (omega arith) (so_far_of
+    c.new-joined.result) (so_far_of c.children.new.joined) (before_of c.args.env.now) (before_of c.children.new.env)
+    c.args.done.now.items c.children.new.done.items c.args.steps.now c.children.new.steps
+    c.args.progress.now.layers.items c.children.new.progress.layers.items c.requires.unshelled c.in_ok-went.went
+    c.in_ok-went.ensures.comes)) c.document_of.ensures.outcome
 
 pub walking::document-returns-clause-added : goal.walking::document-returns-clause-added
 walking::document-returns-clause-added g t c =
-    IfOk-weaker c.document_of.result _ _
-    (λ o h. subst (IsAdded (stores_of c.args.kept.now)
-    (parts_by (shells_by (g.O.Opener.opens c.args.opener.now)) c.args.levels c.args.left c.args.path.now c.args.t.now
-    (before_of c.args.env.now))
-    c.args.done.now.items c.children.new.done.items) (sym h)
-    (comes_added (guide_of (g.O.Opener.opens c.args.opener.now) c.args.kept.now) c.args.levels c.args.left
-    c.args.path.now c.args.t.now
-    c.requires.opens
-    c.requires.some (omega arith) (so_far_of c.new-joined.result) (so_far_of c.children.new.joined)
-    (before_of c.args.env.now) (before_of c.children.new.env) c.args.done.now.items c.children.new.done.items
-    c.args.steps.now c.children.new.steps c.args.progress.now.layers.items c.children.new.progress.layers.items
-    c.requires.unshelled c.in_ok-went.went c.in_ok-went.ensures.comes))
-    c.document_of.ensures.outcome
+    IfOk-weaker c.document_of.result _ _ (λ o h. subst (IsAdded (stores_of c.args.kept.now) (parts_by (shells_by
+    (g.O.Opener.opens c.args.opener.now)) c.args.levels c.args.left c.args.path.now c.args.t.now (before_of
+    c.args.env.now)) c.args.done.now.items c.children.new.done.items) (sym h) (comes_added (guide_of (g.O.Opener.opens
+    c.args.opener.now) c.args.kept.now) c.args.levels c.args.left c.args.path.now c.args.t.now c.requires.opens
+    c.requires.some (omega arith) (so_far_of c.new-joined.result) (so_far_of c.children.new.joined) (before_of
+    c.args.env.now) (before_of c.children.new.env) c.args.done.now.items c.children.new.done.items c.args.steps.now
+    c.children.new.steps c.args.progress.now.layers.items c.children.new.progress.layers.items c.requires.unshelled
+    c.in_ok-went.went c.in_ok-went.ensures.comes)) c.document_of.ensures.outcome
 
 pub walking::document-returns-clause-layers : goal.walking::document-returns-clause-layers
 walking::document-returns-clause-layers g t c =
-    IfOk-weaker c.document_of.result _ _
-    (λ o h. subst (AreKnownBy (shells_by (g.O.Opener.opens c.args.opener.now)) c.args.levels c.args.left c.args.t.now
-    (before_of c.args.env.now) c.args.progress.now.layers.items c.children.new.progress.layers.items) (sym h)
-    (comes_known (guide_of (g.O.Opener.opens c.args.opener.now) c.args.kept.now) c.args.levels c.args.left
-    c.args.path.now c.args.t.now
-    c.requires.opens
-    c.requires.some (omega arith) (so_far_of c.new-joined.result) (so_far_of c.children.new.joined)
-    (before_of c.args.env.now) (before_of c.children.new.env) c.args.done.now.items c.children.new.done.items
-    c.args.steps.now c.children.new.steps c.args.progress.now.layers.items c.children.new.progress.layers.items
-    c.requires.unshelled c.in_ok-went.went c.in_ok-went.ensures.comes))
-    c.document_of.ensures.outcome
+    IfOk-weaker c.document_of.result _ _ (λ o h. subst (AreKnownBy (shells_by (g.O.Opener.opens c.args.opener.now))
+    c.args.levels c.args.left c.args.t.now (before_of c.args.env.now) c.args.progress.now.layers.items
+    c.children.new.progress.layers.items) (sym h) (comes_known (guide_of (g.O.Opener.opens c.args.opener.now)
+    c.args.kept.now) c.args.levels c.args.left c.args.path.now c.args.t.now c.requires.opens c.requires.some (omega
+    arith) (so_far_of c.new-joined.result) (so_far_of c.children.new.joined) (before_of c.args.env.now) (before_of
+    c.children.new.env) c.args.done.now.items c.children.new.done.items c.args.steps.now c.children.new.steps
+    c.args.progress.now.layers.items c.children.new.progress.layers.items c.requires.unshelled c.in_ok-went.went
+    c.in_ok-went.ensures.comes)) c.document_of.ensures.outcome
 
 pub walking::document-returns-clause-counted : goal.walking::document-returns-clause-counted
 walking::document-returns-clause-counted g t c =
-    any_ok c.document_of.result _
-    (comes_counted (guide_of (g.O.Opener.opens c.args.opener.now) c.args.kept.now) c.args.levels c.args.left
-    c.args.path.now c.args.t.now
-    c.requires.opens
-    c.requires.some (omega arith) (so_far_of c.new-joined.result) (so_far_of c.children.new.joined)
-    (before_of c.args.env.now) (before_of c.children.new.env) c.args.done.now.items c.children.new.done.items
-    c.args.steps.now c.children.new.steps c.args.progress.now.layers.items c.children.new.progress.layers.items
-    c.requires.unshelled c.in_ok-went.went c.in_ok-went.ensures.comes)
+    any_ok c.document_of.result _ (comes_counted (guide_of (g.O.Opener.opens c.args.opener.now) c.args.kept.now)
+    c.args.levels c.args.left c.args.path.now c.args.t.now c.requires.opens c.requires.some (omega arith) (so_far_of
+    c.new-joined.result) (so_far_of c.children.new.joined) (before_of c.args.env.now) (before_of c.children.new.env)
+    c.args.done.now.items c.children.new.done.items c.args.steps.now c.children.new.steps
+    c.args.progress.now.layers.items c.children.new.progress.layers.items c.requires.unshelled c.in_ok-went.went
+    c.in_ok-went.ensures.comes)
 
 pub walking::set_inside-walk_tree-requires : goal.walking::set_inside-walk_tree-requires
 walking::set_inside-walk_tree-requires g t c κs within =
@@ -270,18 +245,16 @@ walking::scope-returns-in-None-clause-counted g t c =
 pub walking::scope_with-returns-then-settings-left-clause-exact :
     goal.walking::scope_with-returns-then-settings-left-clause-exact
 walking::scope_with-returns-then-settings-left-clause-exact g t c =
-    sym (ap (option_map (trace_under c.args.path.now))
-    (too_dear c.args.levels c.args.left c.args.path.now c.args.t.now c.args.settings c.requires.scope
-    c.requires.some (before_of c.args.env.now) c.if-settings-left.true))
+    sym (ap (option_map (trace_under c.args.path.now)) (too_dear c.args.levels c.args.left c.args.path.now c.args.t.now
+    c.args.settings c.requires.scope c.requires.some (before_of c.args.env.now) c.if-settings-left.true))
 
 pub walking::scope_with-returns-then-settings-left-clause-counted :
     goal.walking::scope_with-returns-then-settings-left-clause-counted
 walking::scope_with-returns-then-settings-left-clause-counted g t c =
     nothing_more c.args.steps.now (dear_with c.args.levels c.args.left c.args.path.now c.args.t.now c.args.settings
-    c.requires.scope c.requires.some (guide_of (g.O.Opener.opens c.args.opener.now) c.args.kept.now)
-    (sheller_is (g.O.Opener.opens c.args.opener.now) (g.met.O.Opener.sound c.args.opener.now)) (before_of
-    c.args.env.now) c.requires.unshelled
-    c.if-settings-left.true)
+    c.requires.scope c.requires.some (guide_of (g.O.Opener.opens c.args.opener.now) c.args.kept.now) (sheller_is
+    (g.O.Opener.opens c.args.opener.now) (g.met.O.Opener.sound c.args.opener.now)) (before_of c.args.env.now)
+    c.requires.unshelled c.if-settings-left.true)
 
 pub walking::scope_with-with_of-requires-clause-fits : goal.walking::scope_with-with_of-requires-clause-fits
 walking::scope_with-with_of-requires-clause-fits g t c =
@@ -290,8 +263,7 @@ walking::scope_with-with_of-requires-clause-fits g t c =
     c.in-Some.inner.now (c.arity-last.result - 1)
     c.arity-last.result c.arity-last.ensures refl c.in-Some.ensures (c.args.left - 1 - c.args.settings.cost) refl
     c.args.env.now.map c.deref.result.now c.deref.ensures.value (wide_outcome c.in_ok-outcome.outcome) None
-    c.requires.unshelled
-    c.in_ok-outcome.ensures.exact c.requires.levels c.requires.left c.size-size.ensures.within
+    c.requires.unshelled c.in_ok-outcome.ensures.exact c.requires.levels c.requires.left c.size-size.ensures.within
 
 pub walking::scope_with-returns-clause-exact : goal.walking::scope_with-returns-clause-exact
 walking::scope_with-returns-clause-exact g t c =
@@ -301,9 +273,7 @@ walking::scope_with-returns-clause-exact g t c =
     c.in-Some.inner.now (c.arity-last.result - 1)
     c.arity-last.result c.arity-last.ensures refl c.in-Some.ensures (c.args.left - 1 - c.args.settings.cost) refl
     c.args.env.now.map c.deref.result.now c.deref.ensures.value (wide_outcome c.in_ok-outcome.outcome) (wide_outcome o)
-    c.requires.unshelled
-    c.in_ok-outcome.ensures.exact h)
-    c.with_of.ensures.outcome
+    c.requires.unshelled c.in_ok-outcome.ensures.exact h) c.with_of.ensures.outcome
 
 pub walking::scope_with-returns-clause-added : goal.walking::scope_with-returns-clause-added
 walking::scope_with-returns-clause-added g t c =
@@ -313,8 +283,7 @@ walking::scope_with-returns-clause-added g t c =
     c.in-Some.inner.now (c.arity-last.result - 1)
     c.arity-last.result c.arity-last.ensures refl c.in-Some.ensures (c.args.left - 1 - c.args.settings.cost) refl
     c.args.env.now.map c.deref.result.now c.deref.ensures.value (wide_outcome c.in_ok-outcome.outcome) (wide_outcome o)
-    c.requires.unshelled
-    c.args.done.now.items c.inside.new.done.items h c.in_ok-outcome.ensures.added)
+    c.requires.unshelled c.args.done.now.items c.inside.new.done.items h c.in_ok-outcome.ensures.added)
     c.with_of.ensures.outcome
 
 pub walking::scope_with-returns-clause-layers : goal.walking::scope_with-returns-clause-layers
@@ -325,21 +294,18 @@ walking::scope_with-returns-clause-layers g t c =
     c.in-Some.inner.now (c.arity-last.result - 1)
     c.arity-last.result c.arity-last.ensures refl c.in-Some.ensures (c.args.left - 1 - c.args.settings.cost) refl
     c.args.env.now.map c.deref.result.now c.deref.ensures.value (wide_outcome c.in_ok-outcome.outcome) (wide_outcome o)
-    c.requires.unshelled
-    c.args.progress.now.layers.items c.inside.new.progress.layers.items h c.in_ok-outcome.ensures.layers)
-    c.with_of.ensures.outcome
+    c.requires.unshelled c.args.progress.now.layers.items c.inside.new.progress.layers.items h
+    c.in_ok-outcome.ensures.layers) c.with_of.ensures.outcome
 
 pub walking::scope_with-returns-clause-counted : goal.walking::scope_with-returns-clause-counted
 walking::scope_with-returns-clause-counted g t c =
-    any_ok c.with_of.result _
-    (closed_counted c.args.levels c.args.left c.args.path.now c.args.t.now c.args.settings
-    c.requires.scope
-    c.requires.some (guide_of (g.O.Opener.opens c.args.opener.now) c.args.kept.now) c.if-settings-left.false
+    any_ok c.with_of.result _ (closed_counted c.args.levels c.args.left c.args.path.now c.args.t.now c.args.settings
+    c.requires.scope c.requires.some (guide_of (g.O.Opener.opens c.args.opener.now) c.args.kept.now)
+    c.if-settings-left.false
     c.in-Some.inner.now (c.arity-last.result - 1)
     c.arity-last.result c.arity-last.ensures refl c.in-Some.ensures (c.args.left - 1 - c.args.settings.cost) refl
     c.args.env.now.map c.deref.result.now c.deref.ensures.value (wide_outcome c.in_ok-outcome.outcome) None
-    c.requires.unshelled
-    c.args.steps.now c.inside.new.steps c.in_ok-outcome.ensures.counted)
+    c.requires.unshelled c.args.steps.now c.inside.new.steps c.in_ok-outcome.ensures.counted)
 
 pub walking::scope-settings_of-requires-clause-opens : goal.walking::scope-settings_of-requires-clause-opens
 walking::scope-settings_of-requires-clause-opens g t c = (
@@ -361,9 +327,8 @@ walking::scope_with-overflow_sub-last g t c =
 pub walking::scope_with-unreachable-requires : goal.walking::scope_with-unreachable-requires
 walking::scope_with-unreachable-requires g t c =
     let there = inner_at (children_of c.args.t.now) c.requires.scope.texts c.requires.scope.inner
-    (c.arity-last.result - 1)
-    (named c.args.t.now c.requires.scope.texts c.requires.scope.inner c.requires.scope.opens).texts
-    (omega (
+    (c.arity-last.result - 1) (named c.args.t.now c.requires.scope.texts c.requires.scope.inner
+    c.requires.scope.opens).texts (omega (
       arith,
       c.arity-last.ensures,
       settings_count (children_of c.args.t.now) c.requires.scope.texts c.requires.scope.inner
@@ -386,55 +351,44 @@ walking::scope_with-inside-requires g t c κs within =
 
 pub walking::set_inside-returns-clause-added : goal.walking::set_inside-returns-clause-added
 walking::set_inside-returns-clause-added g t c =
-    IfOk-weaker c.walk_tree.result _ _
-    (λ o h. added_same (guide_of (g.O.Opener.opens c.args.opener.now) c.args.kept.now) _ _ _ _ (wide_outcome o)
-    (ap (λ p. parts_by (shells_by (g.O.Opener.opens c.args.opener.now)) c.args.levels c.args.left p c.args.t.now
-    (get c.set_all.new.env.map)) c.in_ok-below.ensures
-    ∙ ap (λ m. parts_by (shells_by (g.O.Opener.opens c.args.opener.now)) c.args.levels c.args.left
-    (c.args.path.now ++ c.args.i ∷ []) c.args.t.now (get m)) c.in_ok-set_all.ensures.map) h)
-    c.walk_tree.ensures.added
+    IfOk-weaker c.walk_tree.result _ _ (λ o h. added_same (guide_of (g.O.Opener.opens c.args.opener.now)
+    c.args.kept.now) _ _ _ _ (wide_outcome o) (ap (λ p. parts_by (shells_by (g.O.Opener.opens c.args.opener.now))
+    c.args.levels c.args.left p c.args.t.now (get c.set_all.new.env.map)) c.in_ok-below.ensures ∙ ap (λ m. parts_by
+    (shells_by (g.O.Opener.opens c.args.opener.now)) c.args.levels c.args.left (c.args.path.now ++ c.args.i ∷ [])
+    c.args.t.now (get m)) c.in_ok-set_all.ensures.map) h) c.walk_tree.ensures.added
 
 pub walking::inside-returns-clause-layers : goal.walking::inside-returns-clause-layers
 walking::inside-returns-clause-layers g t c =
-    IfOk-weaker c.set_inside-outcome.result _ _
-    (λ o h. subst (λ m. AreKnownBy (shells_by (g.O.Opener.opens c.args.opener.now)) c.args.levels c.args.left
-    c.args.t.now (get (overlaid m c.args.pairs.now)) c.args.progress.now.layers.items
-    c.set_inside-outcome.new.progress.layers.items (wide_outcome o)) c.enter-mark.ensures.map h)
-    c.set_inside-outcome.ensures.layers
+    IfOk-weaker c.set_inside-outcome.result _ _ (λ o h. subst (λ m. AreKnownBy (shells_by (g.O.Opener.opens
+    c.args.opener.now)) c.args.levels c.args.left c.args.t.now (get (overlaid m c.args.pairs.now))
+    c.args.progress.now.layers.items c.set_inside-outcome.new.progress.layers.items (wide_outcome o))
+    c.enter-mark.ensures.map h) c.set_inside-outcome.ensures.layers
 
 pub layering::inside_layer-returns-clause-layers : goal.layering::inside_layer-returns-clause-layers
 layering::inside_layer-returns-clause-layers g t c =
-    IfOk-weaker c.set_layer-outcome.result _ _
-    (λ o h. subst (λ m. AreKnownIn (shells_by (g.O.Opener.opens c.args.opener.now)) c.args.levels
-    (wide_layers c.args.layers.now) c.args.left c.args.t.now (get (overlaid m c.args.pairs.now))
-    c.args.progress.now.layers.items c.set_layer-outcome.new.progress.layers.items (wide_outcome o))
-    c.enter-mark.ensures.map h)
-    c.set_layer-outcome.ensures.layers
+    IfOk-weaker c.set_layer-outcome.result _ _ (λ o h. subst (λ m. AreKnownIn (shells_by (g.O.Opener.opens
+    c.args.opener.now)) c.args.levels (wide_layers c.args.layers.now) c.args.left c.args.t.now (get (overlaid m
+    c.args.pairs.now)) c.args.progress.now.layers.items c.set_layer-outcome.new.progress.layers.items (wide_outcome o))
+    c.enter-mark.ensures.map h) c.set_layer-outcome.ensures.layers
 
 pub walking::set_inside-returns-clause-layers : goal.walking::set_inside-returns-clause-layers
 walking::set_inside-returns-clause-layers g t c =
-    IfOk-weaker c.walk_tree.result _ _
-    (λ o h. subst (λ m. AreKnownBy (shells_by (g.O.Opener.opens c.args.opener.now)) c.args.levels c.args.left
-    c.args.t.now (get m) c.args.progress.now.layers.items c.walk_tree.new.progress.layers.items (wide_outcome o))
-    c.in_ok-set_all.ensures.map h)
-    c.walk_tree.ensures.layers
+    IfOk-weaker c.walk_tree.result _ _ (λ o h. subst (λ m. AreKnownBy (shells_by (g.O.Opener.opens c.args.opener.now))
+    c.args.levels c.args.left c.args.t.now (get m) c.args.progress.now.layers.items
+    c.walk_tree.new.progress.layers.items (wide_outcome o)) c.in_ok-set_all.ensures.map h) c.walk_tree.ensures.layers
 
 pub layering::set_layer-returns-clause-layers : goal.layering::set_layer-returns-clause-layers
 layering::set_layer-returns-clause-layers g t c =
-    IfOk-weaker c.in_layers.result _ _
-    (λ o h. subst (λ m. AreKnownIn (shells_by (g.O.Opener.opens c.args.opener.now)) c.args.levels
-    (wide_layers c.args.layers.now) c.args.left c.args.t.now (get m) c.args.progress.now.layers.items
-    c.in_layers.new.progress.layers.items (wide_outcome o)) c.in_ok-set_all.ensures.map h)
-    c.in_layers.ensures.layers
+    IfOk-weaker c.in_layers.result _ _ (λ o h. subst (λ m. AreKnownIn (shells_by (g.O.Opener.opens c.args.opener.now))
+    c.args.levels (wide_layers c.args.layers.now) c.args.left c.args.t.now (get m) c.args.progress.now.layers.items
+    c.in_layers.new.progress.layers.items (wide_outcome o)) c.in_ok-set_all.ensures.map h) c.in_layers.ensures.layers
 
 pub layering::set_layer-returns-clause-added : goal.layering::set_layer-returns-clause-added
 layering::set_layer-returns-clause-added g t c =
-    IfOk-weaker c.in_layers.result _ _
-    (λ o h. added_same (guide_of (g.O.Opener.opens c.args.opener.now) c.args.kept.now) _ _ _ _ (wide_outcome o)
-    (ap (λ m. parts_in (shells_by (g.O.Opener.opens c.args.opener.now)) c.args.levels (wide_layers c.args.layers.now)
-    c.args.i
-    c.args.left c.args.path.now c.args.t.now (get m)) c.in_ok-set_all.ensures.map) h)
-    c.in_layers.ensures.added
+    IfOk-weaker c.in_layers.result _ _ (λ o h. added_same (guide_of (g.O.Opener.opens c.args.opener.now)
+    c.args.kept.now) _ _ _ _ (wide_outcome o) (ap (λ m. parts_in (shells_by (g.O.Opener.opens c.args.opener.now))
+    c.args.levels (wide_layers c.args.layers.now) c.args.i c.args.left c.args.path.now c.args.t.now (get m))
+    c.in_ok-set_all.ensures.map) h) c.in_layers.ensures.added
 
 pub layering::in_layers-returns-then-levels-eq0-clause-exact :
     goal.layering::in_layers-returns-then-levels-eq0-clause-exact
@@ -452,94 +406,82 @@ layering::in_layers-returns-then-levels-eq0-clause-counted g t c =
 pub layering::in_layers-returns-then-left-eq0-clause-exact : goal.layering::in_layers-returns-then-left-eq0-clause-exact
 layering::in_layers-returns-then-left-eq0-clause-exact g t c =
     sym (ap (option_map (trace_under c.args.path.now)) (nothing_in c.args.levels (wide_layers c.args.layers.now)
-    c.args.i
-    c.args.left c.args.t.now (before_of c.args.env.now) c.if-left-eq0.true))
+    c.args.i c.args.left c.args.t.now (before_of c.args.env.now) c.if-left-eq0.true))
 
 pub layering::in_layers-returns-then-left-eq0-clause-counted :
     goal.layering::in_layers-returns-then-left-eq0-clause-counted
 layering::in_layers-returns-then-left-eq0-clause-counted g t c =
     nothing_more c.args.steps.now (none_inside (guide_of (g.O.Opener.opens c.args.opener.now) c.args.kept.now)
     (sheller_is (g.O.Opener.opens c.args.opener.now) (g.met.O.Opener.sound c.args.opener.now)) c.args.levels c.args.left
-    c.args.path.now c.args.t.now
-    (before_of c.args.env.now) (wide_layers c.args.layers.now) c.args.i c.if-left-eq0.true)
+    c.args.path.now c.args.t.now (before_of c.args.env.now) (wide_layers c.args.layers.now) c.args.i c.if-left-eq0.true)
 
 pub layering::in_layers-returns-in-None-clause-added : goal.layering::in_layers-returns-in-None-clause-added
 layering::in_layers-returns-in-None-clause-added g t c =
-    IfOk-weaker c.in_child.result _ _
-    (λ o h. added_same (guide_of (g.O.Opener.opens c.args.opener.now) c.args.kept.now) _ _ _ _ (wide_outcome o)
-    (ap (λ ls. parts_in (shells_by (g.O.Opener.opens c.args.opener.now)) c.args.levels (wide_layers ls) c.args.i
-    c.args.left
-    c.args.path.now c.args.t.now (before_of c.args.env.now)) (sym (none_first c.args.layers.now
+    IfOk-weaker c.in_child.result _ _ (λ o h. added_same (guide_of (g.O.Opener.opens c.args.opener.now) c.args.kept.now)
+    _ _ _ _ (wide_outcome o) (ap (λ ls. parts_in (shells_by (g.O.Opener.opens c.args.opener.now)) c.args.levels
+    (wide_layers ls) c.args.i c.args.left c.args.path.now c.args.t.now (before_of c.args.env.now)) (sym (none_first
+    c.args.layers.now
     c.in-None.ensures.cases))) h)
     c.in_child.ensures.added
 
 pub layering::in_layers-returns-in-None-clause-layers : goal.layering::in_layers-returns-in-None-clause-layers
 layering::in_layers-returns-in-None-clause-layers g t c =
-    IfOk-weaker c.in_child.result _ _
-    (λ o h. subst (λ ls. AreKnownIn (shells_by (g.O.Opener.opens c.args.opener.now)) c.args.levels (wide_layers ls)
-    c.args.left c.args.t.now (before_of c.args.env.now) c.args.progress.now.layers.items
+    IfOk-weaker c.in_child.result _ _ (λ o h. subst (λ ls. AreKnownIn (shells_by (g.O.Opener.opens c.args.opener.now))
+    c.args.levels (wide_layers ls) c.args.left c.args.t.now (before_of c.args.env.now) c.args.progress.now.layers.items
     c.in_child.new.progress.layers.items (wide_outcome o)) (sym (none_first c.args.layers.now
     c.in-None.ensures.cases)) h)
     c.in_child.ensures.layers
 
 pub layering::in_layers-returns-in-Some-clause-layers : goal.layering::in_layers-returns-in-Some-clause-layers
 layering::in_layers-returns-in-Some-clause-layers g t c =
-    IfOk-weaker c.in_layer.result _ _
-    (λ o h. subst (λ ls. AreKnownIn (shells_by (g.O.Opener.opens c.args.opener.now)) c.args.levels (wide_layers ls)
-    c.args.left c.args.t.now (before_of c.args.env.now) c.args.progress.now.layers.items
+    IfOk-weaker c.in_layer.result _ _ (λ o h. subst (λ ls. AreKnownIn (shells_by (g.O.Opener.opens c.args.opener.now))
+    c.args.levels (wide_layers ls) c.args.left c.args.t.now (before_of c.args.env.now) c.args.progress.now.layers.items
     c.in_layer.new.progress.layers.items (wide_outcome o)) (sym c.in-Some.ensures.cases.0) h)
     c.in_layer.ensures.layers
 
 pub layering::in_layers-returns-in-Some-clause-added : goal.layering::in_layers-returns-in-Some-clause-added
 layering::in_layers-returns-in-Some-clause-added g t c =
-    IfOk-weaker c.in_layer.result _ _
-    (λ o h. added_same (guide_of (g.O.Opener.opens c.args.opener.now) c.args.kept.now) _ _ _ _ (wide_outcome o)
-    (ap (λ ls. parts_in (shells_by (g.O.Opener.opens c.args.opener.now)) c.args.levels (wide_layers ls) c.args.i
-    c.args.left
+    IfOk-weaker c.in_layer.result _ _ (λ o h. added_same (guide_of (g.O.Opener.opens c.args.opener.now) c.args.kept.now)
+    _ _ _ _ (wide_outcome o) (ap (λ ls. parts_in (shells_by (g.O.Opener.opens c.args.opener.now)) c.args.levels
+    (wide_layers ls) c.args.i c.args.left
     c.args.path.now c.args.t.now (before_of c.args.env.now)) (sym c.in-Some.ensures.cases.0)) h)
     c.in_layer.ensures.added
 
 pub layering::in_child-stepped-requires-clause-counted : goal.layering::in_child-stepped-requires-clause-counted
 layering::in_child-stepped-requires-clause-counted g t c =
-    child_counted (guide_of (g.O.Opener.opens c.args.opener.now) c.args.kept.now)
-    c.args.levels c.args.left c.args.i c.args.path.now c.args.t.now (before_of c.args.env.now) c.requires.some
-    c.requires.allowed
-    c.in_ok-below.below (wide_outcome c.in_ok-outcome.outcome) c.in_ok-below.ensures c.in_ok-outcome.ensures.exact
-    c.requires.levels c.requires.left
+    child_counted (guide_of (g.O.Opener.opens c.args.opener.now) c.args.kept.now) c.args.levels c.args.left c.args.i
+    c.args.path.now c.args.t.now (before_of c.args.env.now) c.requires.some c.requires.allowed c.in_ok-below.below
+    (wide_outcome c.in_ok-outcome.outcome) c.in_ok-below.ensures c.in_ok-outcome.ensures.exact c.requires.levels
+    c.requires.left
 
 pub layering::in_child-returns-clause-exact : goal.layering::in_child-returns-clause-exact
 layering::in_child-returns-clause-exact g t c =
-    child_exact (guide_of (g.O.Opener.opens c.args.opener.now) c.args.kept.now)
-    c.args.levels c.args.left c.args.i c.args.path.now c.args.t.now (before_of c.args.env.now) c.requires.some
-    c.requires.allowed
-    c.in_ok-below.below (wide_outcome c.in_ok-outcome.outcome) c.in_ok-below.ensures c.in_ok-outcome.ensures.exact
-    (wide_outcome c.stepped.result) c.stepped.ensures.outcome
+    child_exact (guide_of (g.O.Opener.opens c.args.opener.now) c.args.kept.now) c.args.levels c.args.left c.args.i
+    c.args.path.now c.args.t.now (before_of c.args.env.now) c.requires.some c.requires.allowed c.in_ok-below.below
+    (wide_outcome c.in_ok-outcome.outcome) c.in_ok-below.ensures c.in_ok-outcome.ensures.exact (wide_outcome
+    c.stepped.result) c.stepped.ensures.outcome
 
 pub layering::in_child-returns-clause-added : goal.layering::in_child-returns-clause-added
 layering::in_child-returns-clause-added g t c =
     added_as (guide_of (g.O.Opener.opens c.args.opener.now) c.args.kept.now) step_more _ _ _ _ (wide_outcome
-    c.in_ok-outcome.outcome) (wide_outcome c.stepped.result)
-    (ap (λ p. parts_by (shells_by (g.O.Opener.opens c.args.opener.now)) (c.args.levels - 1) (c.args.left - 1) p
-    c.args.t.now (before_of c.args.env.now)) c.in_ok-below.ensures
-    ∙ sym (child_parts (guide_of (g.O.Opener.opens c.args.opener.now) c.args.kept.now)
+    c.in_ok-outcome.outcome) (wide_outcome c.stepped.result) (ap (λ p. parts_by (shells_by (g.O.Opener.opens
+    c.args.opener.now)) (c.args.levels - 1) (c.args.left - 1) p c.args.t.now (before_of c.args.env.now))
+    c.in_ok-below.ensures ∙ sym (child_parts (guide_of (g.O.Opener.opens c.args.opener.now) c.args.kept.now)
     c.args.levels c.args.left c.args.i c.args.path.now c.args.t.now (before_of c.args.env.now) c.requires.some
-    c.requires.allowed))
-    c.stepped.ensures.outcome c.in_ok-outcome.ensures.added
+    c.requires.allowed)) c.stepped.ensures.outcome c.in_ok-outcome.ensures.added
 
 pub layering::in_child-returns-clause-layers : goal.layering::in_child-returns-clause-layers
 layering::in_child-returns-clause-layers g t c =
-    child_known (guide_of (g.O.Opener.opens c.args.opener.now) c.args.kept.now)
-    c.args.levels c.args.left c.args.i c.args.path.now c.args.t.now (before_of c.args.env.now) c.requires.some
-    c.requires.allowed c.args.progress.now.layers.items c.walk_tree.new.progress.layers.items
-    (wide_outcome c.in_ok-outcome.outcome) (wide_outcome c.stepped.result) c.stepped.ensures.outcome
-    c.in_ok-outcome.ensures.layers
+    child_known (guide_of (g.O.Opener.opens c.args.opener.now) c.args.kept.now) c.args.levels c.args.left c.args.i
+    c.args.path.now c.args.t.now (before_of c.args.env.now) c.requires.some c.requires.allowed
+    c.args.progress.now.layers.items c.walk_tree.new.progress.layers.items (wide_outcome c.in_ok-outcome.outcome)
+    (wide_outcome c.stepped.result) c.stepped.ensures.outcome c.in_ok-outcome.ensures.layers
 
 pub layering::in_child-returns-clause-counted : goal.layering::in_child-returns-clause-counted
 layering::in_child-returns-clause-counted g t c =
-    c.in_ok-outcome.ensures.counted
-    ∙ ap (λ n. c.args.steps.now + n) (ap (λ p. charged (guide_of (g.O.Opener.opens c.args.opener.now) c.args.kept.now)
-    (c.args.levels - 1) (c.args.left - 1) p c.args.t.now (before_of c.args.env.now)) c.in_ok-below.ensures
-    ∙ sym (child_charged (guide_of (g.O.Opener.opens c.args.opener.now) c.args.kept.now)
+    c.in_ok-outcome.ensures.counted ∙ ap (λ n. c.args.steps.now + n) (ap (λ p. charged (guide_of (g.O.Opener.opens
+    c.args.opener.now) c.args.kept.now) (c.args.levels - 1) (c.args.left - 1) p c.args.t.now (before_of c.args.env.now))
+    c.in_ok-below.ensures ∙ sym (child_charged (guide_of (g.O.Opener.opens c.args.opener.now) c.args.kept.now)
     c.args.levels c.args.left c.args.i c.args.path.now c.args.t.now (before_of c.args.env.now) c.requires.some
     c.requires.allowed))
 
@@ -581,13 +523,11 @@ layering::shelled-tag_of-requires-clause-counted g t c =
     (omega (arith, c.if-left-eq0.false)) (wide_outcome c.in_ok-outcome.outcome) (subst (λ ls. wide_outcome
     c.in_ok-outcome.outcome ≡ option_map (trace_under c.args.path.now)
     (evaluates_in (c.args.levels - 1) (wide_layers ls) c.args.shell.now.inner (c.args.left - 1) c.in-Some.inner.now
-    (before_of c.args.env.now))) c.deref.ensures.value c.in_ok-outcome.ensures.exact)
-    c.requires.levels c.requires.left
+    (before_of c.args.env.now))) c.deref.ensures.value c.in_ok-outcome.ensures.exact) c.requires.levels c.requires.left
 
 pub layering::shelled-returns-clause-exact : goal.layering::shelled-returns-clause-exact
 layering::shelled-returns-clause-exact g t c =
-    IfOk-weaker c.tag_of.result _ _
-    (λ o h. tag_exact (guide_of (g.O.Opener.opens c.args.opener.now) c.args.kept.now)
+    IfOk-weaker c.tag_of.result _ _ (λ o h. tag_exact (guide_of (g.O.Opener.opens c.args.opener.now) c.args.kept.now)
     c.args.levels c.args.left c.args.path.now c.args.t.now (wide_shell c.args.shell.now) c.in-Some.inner.now
     (before_of c.args.env.now) (sheller_is (g.O.Opener.opens c.args.opener.now) (g.met.O.Opener.sound
     c.args.opener.now))
@@ -595,28 +535,22 @@ layering::shelled-returns-clause-exact g t c =
     (omega (arith, c.if-left-eq0.false)) (wide_outcome c.in_ok-outcome.outcome) (subst (λ ls. wide_outcome
     c.in_ok-outcome.outcome ≡ option_map (trace_under c.args.path.now)
     (evaluates_in (c.args.levels - 1) (wide_layers ls) c.args.shell.now.inner (c.args.left - 1) c.in-Some.inner.now
-    (before_of c.args.env.now))) c.deref.ensures.value c.in_ok-outcome.ensures.exact)
-    (from_entries c.in_ok-look.look) (wide_outcome o) c.in_ok-look.ensures h)
-    c.tag_of.ensures.outcome
+    (before_of c.args.env.now))) c.deref.ensures.value c.in_ok-outcome.ensures.exact) (from_entries c.in_ok-look.look)
+    (wide_outcome o) c.in_ok-look.ensures h) c.tag_of.ensures.outcome
 
 pub layering::shelled-returns-clause-behind : goal.layering::shelled-returns-clause-behind
 layering::shelled-returns-clause-behind g t c =
-    IfOk-weaker c.tag_of.result _ _
-    (λ o h. behind_as (look_before (from_entries c.in_ok-look.look)) (λ u. refl) (before_of c.args.env.now)
-    (before_of c.in_layers.new.env) (wide_outcome c.in_ok-outcome.outcome) (wide_outcome o) h
-    c.in_ok-outcome.ensures.behind)
-    c.tag_of.ensures.outcome
+    IfOk-weaker c.tag_of.result _ _ (λ o h. behind_as (look_before (from_entries c.in_ok-look.look)) (λ u. refl)
+    (before_of c.args.env.now) (before_of c.in_layers.new.env) (wide_outcome c.in_ok-outcome.outcome) (wide_outcome o) h
+    c.in_ok-outcome.ensures.behind) c.tag_of.ensures.outcome
 
 pub layering::shelled-returns-clause-added : goal.layering::shelled-returns-clause-added
 layering::shelled-returns-clause-added g t c =
-    IfOk-weaker c.tag_of.result _ _
-    (λ o h. added_as (guide_of (g.O.Opener.opens c.args.opener.now) c.args.kept.now) (look_before (from_entries
-    c.in_ok-look.look)) _ _ _ _
-    (wide_outcome c.in_ok-outcome.outcome) (wide_outcome o)
-    (ap (λ ls. parts_in (shells_by (g.O.Opener.opens c.args.opener.now)) (c.args.levels - 1) (wide_layers ls)
+    IfOk-weaker c.tag_of.result _ _ (λ o h. added_as (guide_of (g.O.Opener.opens c.args.opener.now) c.args.kept.now)
+    (look_before (from_entries c.in_ok-look.look)) _ _ _ _ (wide_outcome c.in_ok-outcome.outcome) (wide_outcome o) (ap
+    (λ ls. parts_in (shells_by (g.O.Opener.opens c.args.opener.now)) (c.args.levels - 1) (wide_layers ls)
     c.args.shell.now.inner (c.args.left - 1) c.args.path.now c.in-Some.inner.now (before_of c.args.env.now))
-    c.deref.ensures.value
-    ∙ sym (tag_parts (guide_of (g.O.Opener.opens c.args.opener.now) c.args.kept.now)
+    c.deref.ensures.value ∙ sym (tag_parts (guide_of (g.O.Opener.opens c.args.opener.now) c.args.kept.now)
     c.args.levels c.args.left c.args.path.now c.args.t.now (wide_shell c.args.shell.now) c.in-Some.inner.now
     (before_of c.args.env.now) (sheller_is (g.O.Opener.opens c.args.opener.now) (g.met.O.Opener.sound
     c.args.opener.now))
@@ -625,8 +559,7 @@ layering::shelled-returns-clause-added g t c =
 
 pub layering::shelled-returns-clause-layers : goal.layering::shelled-returns-clause-layers
 layering::shelled-returns-clause-layers g t c =
-    IfOk-weaker c.tag_of.result _ _
-    (λ o h. tag_known (guide_of (g.O.Opener.opens c.args.opener.now) c.args.kept.now)
+    IfOk-weaker c.tag_of.result _ _ (λ o h. tag_known (guide_of (g.O.Opener.opens c.args.opener.now) c.args.kept.now)
     c.args.levels c.args.left c.args.path.now c.args.t.now (wide_shell c.args.shell.now) c.in-Some.inner.now
     (before_of c.args.env.now) (sheller_is (g.O.Opener.opens c.args.opener.now) (g.met.O.Opener.sound
     c.args.opener.now))
@@ -635,15 +568,13 @@ layering::shelled-returns-clause-layers g t c =
     (wide_outcome o) h (subst (λ ls. AreKnownIn (shells_by (g.O.Opener.opens c.args.opener.now)) (c.args.levels - 1)
     (wide_layers ls) (c.args.left - 1) c.in-Some.inner.now (before_of c.args.env.now)
     c.args.progress.now.layers.items c.in_layers.new.progress.layers.items (wide_outcome c.in_ok-outcome.outcome))
-    c.deref.ensures.value c.in_ok-outcome.ensures.layers))
-    c.tag_of.ensures.outcome
+    c.deref.ensures.value c.in_ok-outcome.ensures.layers)) c.tag_of.ensures.outcome
 
 pub layering::shelled-returns-clause-counted : goal.layering::shelled-returns-clause-counted
 layering::shelled-returns-clause-counted g t c =
-    any_ok c.tag_of.result _ (c.in_ok-outcome.ensures.counted
-    ∙ ap (λ n. c.args.steps.now + n) (ap (λ ls. charged_in (guide_of (g.O.Opener.opens c.args.opener.now)
-    c.args.kept.now)
-    (c.args.levels - 1) (wide_layers ls) c.args.shell.now.inner (c.args.left - 1) c.args.path.now
+    any_ok c.tag_of.result _ (c.in_ok-outcome.ensures.counted ∙ ap (λ n. c.args.steps.now + n) (ap (λ ls. charged_in
+    (guide_of (g.O.Opener.opens c.args.opener.now) c.args.kept.now) (c.args.levels - 1) (wide_layers ls)
+    c.args.shell.now.inner (c.args.left - 1) c.args.path.now
     c.in-Some.inner.now (before_of c.args.env.now)) c.deref.ensures.value
     ∙ sym (tag_charged (guide_of (g.O.Opener.opens c.args.opener.now) c.args.kept.now)
     c.args.levels c.args.left c.args.path.now c.args.t.now (wide_shell c.args.shell.now) c.in-Some.inner.now
@@ -655,24 +586,20 @@ pub layering::through_layer-returns-then-not-went-clause-exact :
     goal.layering::through_layer-returns-then-not-went-clause-exact
 layering::through_layer-returns-then-not-went-clause-exact g t c =
     sym (ap (option_map (trace_under c.args.path.now)) (values_over (guide_of (g.O.Opener.opens c.args.opener.now)
-    c.args.kept.now)
-    (sheller_is (g.O.Opener.opens c.args.opener.now) (g.met.O.Opener.sound c.args.opener.now)) c.args.levels c.args.left
-    c.args.i c.args.path.now
-    (wide_layer c.args.layer.now) (wide_layers c.args.inner.now) c.args.t.now
-    (stage_in c.args.so_far.now c.args.env.now c.args.steps.now) c.requires.some
-    (stage_in c.add_layer.new.self c.add_layer.new.env c.add_layer.new.steps)
-    (rw c.if-not-went.true at c.in_ok-went.ensures.comes)))
+    c.args.kept.now) (sheller_is (g.O.Opener.opens c.args.opener.now) (g.met.O.Opener.sound c.args.opener.now))
+    c.args.levels c.args.left c.args.i c.args.path.now (wide_layer c.args.layer.now) (wide_layers c.args.inner.now)
+    c.args.t.now (stage_in c.args.so_far.now c.args.env.now c.args.steps.now) c.requires.some (stage_in
+    c.add_layer.new.self c.add_layer.new.env c.add_layer.new.steps) (rw c.if-not-went.true at
+    c.in_ok-went.ensures.comes)))
 
 pub layering::through_layer-returns-then-not-went-clause-counted :
     goal.layering::through_layer-returns-then-not-went-clause-counted
 layering::through_layer-returns-then-not-went-clause-counted g t c =
-    over_counted (guide_of (g.O.Opener.opens c.args.opener.now) c.args.kept.now)
-    (sheller_is (g.O.Opener.opens c.args.opener.now) (g.met.O.Opener.sound c.args.opener.now)) c.args.levels c.args.left
-    c.args.i c.args.path.now
-    (wide_layer c.args.layer.now) (wide_layers c.args.inner.now) c.args.t.now
-    (stage_in c.args.so_far.now c.args.env.now c.args.steps.now) c.requires.some
-    (stage_in c.add_layer.new.self c.add_layer.new.env c.add_layer.new.steps)
-    (rw c.if-not-went.true at c.in_ok-went.ensures.comes)
+    over_counted (guide_of (g.O.Opener.opens c.args.opener.now) c.args.kept.now) (sheller_is (g.O.Opener.opens
+    c.args.opener.now) (g.met.O.Opener.sound c.args.opener.now)) c.args.levels c.args.left c.args.i c.args.path.now
+    (wide_layer c.args.layer.now) (wide_layers c.args.inner.now) c.args.t.now (stage_in c.args.so_far.now c.args.env.now
+    c.args.steps.now) c.requires.some (stage_in c.add_layer.new.self c.add_layer.new.env c.add_layer.new.steps) (rw
+    c.if-not-went.true at c.in_ok-went.ensures.comes)
 
 pub layering::through_layer-returns-clause-exact : goal.layering::through_layer-returns-clause-exact
 layering::through_layer-returns-clause-exact g t c =
@@ -696,12 +623,11 @@ layering::through_layer-returns-clause-counted g t c =
 
 pub layering::through_layer-returns-clause-layers : goal.layering::through_layer-returns-clause-layers
 layering::through_layer-returns-clause-layers g t c =
-    IfOk-weaker c.behind_values.result _ _
-    (λ o h. subst (λ ms. AreKnownIn (shells_by (g.O.Opener.opens c.args.opener.now)) c.args.levels
-    (wide_layer c.args.layer.now ∷ wide_layers c.args.inner.now) c.args.left c.args.t.now (before_of c.args.env.now)
-    ms.items c.behind_values.new.progress.layers.items (wide_outcome o)) c.in_ok-went.ensures.layers h)
-    (c.behind_values.ensures.layers (stage_in c.args.so_far.now c.args.env.now c.args.steps.now)
-    (rw c.if-not-went.false at c.in_ok-went.ensures.comes))
+    IfOk-weaker c.behind_values.result _ _ (λ o h. subst (λ ms. AreKnownIn (shells_by (g.O.Opener.opens
+    c.args.opener.now)) c.args.levels (wide_layer c.args.layer.now ∷ wide_layers c.args.inner.now) c.args.left
+    c.args.t.now (before_of c.args.env.now) ms.items c.behind_values.new.progress.layers.items (wide_outcome o))
+    c.in_ok-went.ensures.layers h) (c.behind_values.ensures.layers (stage_in c.args.so_far.now c.args.env.now
+    c.args.steps.now) (rw c.if-not-went.false at c.in_ok-went.ensures.comes))
 
 pub layering::behind_values-overflow_add-so_far : goal.layering::behind_values-overflow_add-so_far
 layering::behind_values-overflow_add-so_far g t c =
@@ -717,47 +643,40 @@ pub layering::behind_values-returns-in_default-clause-exact :
     goal.layering::behind_values-returns-in_default-clause-exact
 layering::behind_values-returns-in_default-clause-exact g t c =
     λ s d. sym (ap (option_map (trace_under c.args.path.now)) (dear_over (guide_of (g.O.Opener.opens c.args.opener.now)
-    c.args.kept.now)
-    (sheller_is (g.O.Opener.opens c.args.opener.now) (g.met.O.Opener.sound c.args.opener.now)) c.args.levels c.args.left
-    c.args.i c.args.path.now
-    (wide_layer c.args.layer.now) (wide_layers c.args.inner.now) c.args.t.now s c.requires.some
-    (stage_in c.args.so_far.now c.args.env.now c.args.steps.now) d
-    (subst (λ ss. c.args.left < (1 + c.args.so_far.now.joined.cost) + set_sizes (pairs_of_settings ss))
-    c.deref.ensures.value c.in_default.ensures)))
+    c.args.kept.now) (sheller_is (g.O.Opener.opens c.args.opener.now) (g.met.O.Opener.sound c.args.opener.now))
+    c.args.levels c.args.left c.args.i c.args.path.now (wide_layer c.args.layer.now) (wide_layers c.args.inner.now)
+    c.args.t.now s c.requires.some (stage_in c.args.so_far.now c.args.env.now c.args.steps.now) d (subst (λ ss.
+    c.args.left < (1 + c.args.so_far.now.joined.cost) + set_sizes (pairs_of_settings ss)) c.deref.ensures.value
+    c.in_default.ensures)))
 
 pub layering::behind_values-returns-in_default-clause-counted :
     goal.layering::behind_values-returns-in_default-clause-counted
 layering::behind_values-returns-in_default-clause-counted g t c =
     λ s d. dear_counted (guide_of (g.O.Opener.opens c.args.opener.now) c.args.kept.now)
     (sheller_is (g.O.Opener.opens c.args.opener.now) (g.met.O.Opener.sound c.args.opener.now)) c.args.levels c.args.left
-    c.args.i c.args.path.now
-    (wide_layer c.args.layer.now) (wide_layers c.args.inner.now) c.args.t.now s c.requires.some
-    (stage_in c.args.so_far.now c.args.env.now c.args.steps.now) d
-    (subst (λ ss. c.args.left < (1 + c.args.so_far.now.joined.cost) + set_sizes (pairs_of_settings ss))
-    c.deref.ensures.value c.in_default.ensures)
+    c.args.i c.args.path.now (wide_layer c.args.layer.now) (wide_layers c.args.inner.now) c.args.t.now s c.requires.some
+    (stage_in c.args.so_far.now c.args.env.now c.args.steps.now) d (subst (λ ss. c.args.left < (1 +
+    c.args.so_far.now.joined.cost) + set_sizes (pairs_of_settings ss)) c.deref.ensures.value c.in_default.ensures)
 
 pub layering::behind_values-layer_of-requires-clause-fits : goal.layering::behind_values-layer_of-requires-clause-fits
 layering::behind_values-layer_of-requires-clause-fits g t c =
     let s = c.requires.comes.0 in
     let d = c.requires.comes.1 in
-    inside_fits (guide_of (g.O.Opener.opens c.args.opener.now) c.args.kept.now)
-    (sheller_is (g.O.Opener.opens c.args.opener.now) (g.met.O.Opener.sound c.args.opener.now)) c.args.levels c.args.left
-    c.args.i c.args.path.now
+    inside_fits (guide_of (g.O.Opener.opens c.args.opener.now) c.args.kept.now) (sheller_is (g.O.Opener.opens
+    c.args.opener.now) (g.met.O.Opener.sound c.args.opener.now)) c.args.levels c.args.left c.args.i c.args.path.now
     (wide_layer c.args.layer.now) (wide_layers c.args.inner.now) c.args.t.now s c.requires.some
     (stage_in c.args.so_far.now c.args.env.now c.args.steps.now) d c.in-Some.cost
     (c.args.left - c.in-Some.cost)
     (c.in-Some.ensures.0 ∙ ap (λ ss. (1 + c.args.so_far.now.joined.cost) + set_sizes (pairs_of_settings ss))
     c.deref.ensures.value) c.in-Some.ensures.1 refl c.args.env.now.map refl c.deref-3.result.now
-    (c.deref-3.ensures.value ∙ c.in_ok-pairs.ensures.pairs ∙ ap pairs_of_settings c.deref-2.ensures.value)
-    (wide_outcome c.in_ok-outcome.outcome) c.in_ok-outcome.ensures.exact c.requires.full c.requires.levels
-    c.requires.left
+    (c.deref-3.ensures.value ∙ c.in_ok-pairs.ensures.pairs ∙ ap pairs_of_settings c.deref-2.ensures.value) (wide_outcome
+    c.in_ok-outcome.outcome) c.in_ok-outcome.ensures.exact c.requires.full c.requires.levels c.requires.left
 
 pub layering::behind_values-returns-clause-exact : goal.layering::behind_values-returns-clause-exact
 layering::behind_values-returns-clause-exact g t c =
     λ s d. IfOk-weaker c.layer_of.result _ _
-    (λ o h. inside_exact (guide_of (g.O.Opener.opens c.args.opener.now) c.args.kept.now)
-    (sheller_is (g.O.Opener.opens c.args.opener.now) (g.met.O.Opener.sound c.args.opener.now)) c.args.levels c.args.left
-    c.args.i c.args.path.now
+    (λ o h. inside_exact (guide_of (g.O.Opener.opens c.args.opener.now) c.args.kept.now) (sheller_is (g.O.Opener.opens
+    c.args.opener.now) (g.met.O.Opener.sound c.args.opener.now)) c.args.levels c.args.left c.args.i c.args.path.now
     (wide_layer c.args.layer.now) (wide_layers c.args.inner.now) c.args.t.now s c.requires.some
     (stage_in c.args.so_far.now c.args.env.now c.args.steps.now) d c.in-Some.cost
     (c.args.left - c.in-Some.cost)
@@ -767,16 +686,14 @@ layering::behind_values-returns-clause-exact g t c =
     (wide_outcome c.in_ok-outcome.outcome) c.in_ok-outcome.ensures.exact (wide_outcome o) (subst (λ ps. wide_outcome o ≡
     option_map (layer_by (overlaid empty ps) (so_far_of c.args.so_far.now.joined)
     c.in-Some.cost) (wide_outcome c.in_ok-outcome.outcome))
-    (c.deref-4.ensures.value ∙ sym c.deref-3.ensures.value) h))
-    c.layer_of.ensures.outcome
+    (c.deref-4.ensures.value ∙ sym c.deref-3.ensures.value) h)) c.layer_of.ensures.outcome
 
 pub layering::behind_values-returns-clause-behind : goal.layering::behind_values-returns-clause-behind
 layering::behind_values-returns-clause-behind g t c =
     λ s d. pushed_both c.layer_of.result _ _ _
-    (λ p o h. inside_behind (guide_of (g.O.Opener.opens c.args.opener.now) c.args.kept.now)
-    (sheller_is (g.O.Opener.opens c.args.opener.now) (g.met.O.Opener.sound c.args.opener.now)) c.args.levels c.args.left
-    c.args.i c.args.path.now
-    (wide_layer c.args.layer.now) (wide_layers c.args.inner.now) c.args.t.now s c.requires.some
+    (λ p o h. inside_behind (guide_of (g.O.Opener.opens c.args.opener.now) c.args.kept.now) (sheller_is
+    (g.O.Opener.opens c.args.opener.now) (g.met.O.Opener.sound c.args.opener.now)) c.args.levels c.args.left c.args.i
+    c.args.path.now (wide_layer c.args.layer.now) (wide_layers c.args.inner.now) c.args.t.now s c.requires.some
     (stage_in c.args.so_far.now c.args.env.now c.args.steps.now) d c.in-Some.cost
     (c.args.left - c.in-Some.cost)
     (c.in-Some.ensures.0 ∙ ap (λ ss. (1 + c.args.so_far.now.joined.cost) + set_sizes (pairs_of_settings ss))
@@ -785,11 +702,10 @@ layering::behind_values-returns-clause-behind g t c =
     (wide_outcome c.in_ok-outcome.outcome) c.in_ok-outcome.ensures.exact (wide_outcome o) (before_of c.layer_of.new.env)
     (subst (λ ps. wide_outcome o ≡ option_map (layer_by (overlaid empty ps) (so_far_of c.args.so_far.now.joined)
     c.in-Some.cost) (wide_outcome c.in_ok-outcome.outcome))
-    (c.deref-4.ensures.value ∙ sym c.deref-3.ensures.value) h)
-    (subst (λ ps. BehindLayer (overlaid empty ps) (before_of c.args.env.now) (before_of c.layer_of.new.env)
-    (wide_outcome c.in_ok-outcome.outcome)) (c.deref-4.ensures.value ∙ sym c.deref-3.ensures.value)
-    (behind_same c.inside_layer.new.env c.args.env.now c.in_ok-outcome.ensures.same _ _ _ p)))
-    c.layer_of.ensures.behind c.layer_of.ensures.outcome
+    (c.deref-4.ensures.value ∙ sym c.deref-3.ensures.value) h) (subst (λ ps. BehindLayer (overlaid empty ps) (before_of
+    c.args.env.now) (before_of c.layer_of.new.env) (wide_outcome c.in_ok-outcome.outcome)) (c.deref-4.ensures.value ∙
+    sym c.deref-3.ensures.value) (behind_same c.inside_layer.new.env c.args.env.now c.in_ok-outcome.ensures.same _ _ _
+    p))) c.layer_of.ensures.behind c.layer_of.ensures.outcome
 
 pub layering::behind_values-returns-clause-added : goal.layering::behind_values-returns-clause-added
 layering::behind_values-returns-clause-added g t c =
@@ -797,11 +713,9 @@ layering::behind_values-returns-clause-added g t c =
     (λ o h. added_as (guide_of (g.O.Opener.opens c.args.opener.now) c.args.kept.now) (layer_by (overlaid empty
     c.deref-3.result.now)
     (so_far_of c.args.so_far.now.joined) c.in-Some.cost) _ _ _ _ (wide_outcome c.in_ok-outcome.outcome)
-    (wide_outcome o)
-    (inside_parts (guide_of (g.O.Opener.opens c.args.opener.now) c.args.kept.now)
-    (sheller_is (g.O.Opener.opens c.args.opener.now) (g.met.O.Opener.sound c.args.opener.now)) c.args.levels c.args.left
-    c.args.i c.args.path.now
-    (wide_layer c.args.layer.now) (wide_layers c.args.inner.now) c.args.t.now s c.requires.some
+    (wide_outcome o) (inside_parts (guide_of (g.O.Opener.opens c.args.opener.now) c.args.kept.now) (sheller_is
+    (g.O.Opener.opens c.args.opener.now) (g.met.O.Opener.sound c.args.opener.now)) c.args.levels c.args.left c.args.i
+    c.args.path.now (wide_layer c.args.layer.now) (wide_layers c.args.inner.now) c.args.t.now s c.requires.some
     (stage_in c.args.so_far.now c.args.env.now c.args.steps.now) d c.in-Some.cost
     (c.args.left - c.in-Some.cost)
     (c.in-Some.ensures.0 ∙ ap (λ ss. (1 + c.args.so_far.now.joined.cost) + set_sizes (pairs_of_settings ss))
@@ -809,8 +723,7 @@ layering::behind_values-returns-clause-added g t c =
     (c.deref-3.ensures.value ∙ c.in_ok-pairs.ensures.pairs ∙ ap pairs_of_settings c.deref-2.ensures.value))
     (subst (λ ps. wide_outcome o ≡ option_map (layer_by (overlaid empty ps) (so_far_of c.args.so_far.now.joined)
     c.in-Some.cost) (wide_outcome c.in_ok-outcome.outcome))
-    (c.deref-4.ensures.value ∙ sym c.deref-3.ensures.value) h) c.in_ok-outcome.ensures.added)
-    c.layer_of.ensures.outcome
+    (c.deref-4.ensures.value ∙ sym c.deref-3.ensures.value) h) c.in_ok-outcome.ensures.added) c.layer_of.ensures.outcome
 
 pub layering::behind_values-returns-in_default-clause-layers :
     goal.layering::behind_values-returns-in_default-clause-layers
@@ -819,20 +732,18 @@ layering::behind_values-returns-in_default-clause-layers g t c = λ s d. tt
 pub layering::behind_values-returns-clause-layers : goal.layering::behind_values-returns-clause-layers
 layering::behind_values-returns-clause-layers g t c =
     λ s d. IfOk-weaker c.layer_of.result _ _
-    (λ o h. inside_known (guide_of (g.O.Opener.opens c.args.opener.now) c.args.kept.now)
-    (sheller_is (g.O.Opener.opens c.args.opener.now) (g.met.O.Opener.sound c.args.opener.now)) c.args.levels c.args.left
-    c.args.i c.args.path.now
+    (λ o h. inside_known (guide_of (g.O.Opener.opens c.args.opener.now) c.args.kept.now) (sheller_is (g.O.Opener.opens
+    c.args.opener.now) (g.met.O.Opener.sound c.args.opener.now)) c.args.levels c.args.left c.args.i c.args.path.now
     (wide_layer c.args.layer.now) (wide_layers c.args.inner.now) c.args.t.now s c.requires.some
     (stage_in c.args.so_far.now c.args.env.now c.args.steps.now) d c.in-Some.cost
     (c.args.left - c.in-Some.cost)
     (c.in-Some.ensures.0 ∙ ap (λ ss. (1 + c.args.so_far.now.joined.cost) + set_sizes (pairs_of_settings ss))
     c.deref.ensures.value) c.in-Some.ensures.1 refl c.args.env.now.map refl c.deref-3.result.now
     (c.deref-3.ensures.value ∙ c.in_ok-pairs.ensures.pairs ∙ ap pairs_of_settings c.deref-2.ensures.value)
-    c.args.progress.now.layers.items c.pairs_to_set.new.progress.layers.items
-    c.inside_layer.new.progress.layers.items (wide_outcome c.in_ok-outcome.outcome) (wide_outcome o)
-    c.in_ok-pairs.ensures.more (subst (AllHeldBy (holds_in c.pairs_to_set.new.progress.layers.items))
-    c.deref-2.ensures.value c.in_ok-pairs.ensures.held)
-    (subst (λ ps. wide_outcome o ≡ option_map (layer_by (overlaid empty ps) (so_far_of c.args.so_far.now.joined)
+    c.args.progress.now.layers.items c.pairs_to_set.new.progress.layers.items c.inside_layer.new.progress.layers.items
+    (wide_outcome c.in_ok-outcome.outcome) (wide_outcome o) c.in_ok-pairs.ensures.more (subst (AllHeldBy (holds_in
+    c.pairs_to_set.new.progress.layers.items)) c.deref-2.ensures.value c.in_ok-pairs.ensures.held) (subst (λ ps.
+    wide_outcome o ≡ option_map (layer_by (overlaid empty ps) (so_far_of c.args.so_far.now.joined)
     c.in-Some.cost) (wide_outcome c.in_ok-outcome.outcome))
     (c.deref-4.ensures.value ∙ sym c.deref-3.ensures.value) h) c.in_ok-outcome.ensures.layers)
     c.layer_of.ensures.outcome
@@ -840,18 +751,16 @@ layering::behind_values-returns-clause-layers g t c =
 pub layering::behind_values-returns-clause-counted : goal.layering::behind_values-returns-clause-counted
 layering::behind_values-returns-clause-counted g t c =
     λ s d. any_ok c.layer_of.result _
-    (inside_counted (guide_of (g.O.Opener.opens c.args.opener.now) c.args.kept.now)
-    (sheller_is (g.O.Opener.opens c.args.opener.now) (g.met.O.Opener.sound c.args.opener.now)) c.args.levels c.args.left
-    c.args.i c.args.path.now
+    (inside_counted (guide_of (g.O.Opener.opens c.args.opener.now) c.args.kept.now) (sheller_is (g.O.Opener.opens
+    c.args.opener.now) (g.met.O.Opener.sound c.args.opener.now)) c.args.levels c.args.left c.args.i c.args.path.now
     (wide_layer c.args.layer.now) (wide_layers c.args.inner.now) c.args.t.now s c.requires.some
     (stage_in c.args.so_far.now c.args.env.now c.args.steps.now) d c.in-Some.cost
     (c.args.left - c.in-Some.cost)
     (c.in-Some.ensures.0 ∙ ap (λ ss. (1 + c.args.so_far.now.joined.cost) + set_sizes (pairs_of_settings ss))
     c.deref.ensures.value) c.in-Some.ensures.1 refl c.args.env.now.map refl c.deref-3.result.now
     (c.deref-3.ensures.value ∙ c.in_ok-pairs.ensures.pairs ∙ ap pairs_of_settings c.deref-2.ensures.value)
-    c.pairs_to_set.new.steps c.inside_layer.new.steps
-    (c.in_ok-pairs.ensures.counted ∙ ap (λ ss. c.args.steps.now + new_nodes ss)
-    c.deref-2.ensures.value) c.in_ok-outcome.ensures.counted)
+    c.pairs_to_set.new.steps c.inside_layer.new.steps (c.in_ok-pairs.ensures.counted ∙ ap (λ ss. c.args.steps.now +
+    new_nodes ss) c.deref-2.ensures.value) c.in_ok-outcome.ensures.counted)
 
 pub layering::through_layer-behind_values-requires : goal.layering::through_layer-behind_values-requires
 layering::through_layer-behind_values-requires g t c κs within =
