@@ -33,7 +33,7 @@ use Rattle.tx_bridge.specs.PartMoves.{moves_from, part_moves, kept_in_unit, arri
 use Rattle.tx_bridge.specs.PartsKept.{KeptParts}
 use Rattle.tx_bridge.specs.Slots.{fresh_bridge, bodies_of}
 use Rattle.tx_bridge.specs.Sound.{entries_of, changed_in}
-use Rattle.tx_bridge.specs.Strays.{Stray, AreStrays, kept_strays, is_beside, path_at, strays_beside}
+use Rattle.tx_bridge.specs.Strays.{Stray, AreOutside, kept_strays, is_beside, path_at, strays_beside}
 use Rattle.tx_bridge.specs.UnitLists.{AreUnits}
 use Rattle.tx_bridge.proofs.Above.{in_rest, above_is, none_above, vacant_nowhere, vacant_by_path}
 use Rattle.tx_bridge.proofs.Arrived.{start_sound, units_bodies}
@@ -407,11 +407,7 @@ module _ (i : ℕ) (ms : List Mod) (t u x : WideTree) (us : List DocUnit) (made 
           sym (ap (λ o. is_beside o s.kept.path) path_is_own ∙ ap not f) ∙ e in
           cc
 
-  -- what is asked of strays
-  abbrev AllOut : List Stray → Type 0
-  AllOut ss = AllByRecursion (λ s. NoneAbove s.kept.path us) ss
-
-  strays_arrive : (n k : ℕ) (ss : List Stray) → AllOut ss
+  strays_arrive : (n k : ℕ) (ss : List Stray) → AreOutside us ss
       → arrived (moves_below ms t vs n [] k (kept_strays ss)) (length vs) ≡ kept_strays (strays_beside i us ss)
   strays_arrive n k [] h = refl
   strays_arrive n k (s ∷ ss) h =
@@ -438,7 +434,7 @@ module _ (i : ℕ) (ms : List Mod) (t u x : WideTree) (us : List DocUnit) (made 
           ∙ rest
 
   -- none comes to the unit
-  strays_stay_out : (n k : ℕ) (ss : List Stray) → AllOut ss
+  strays_stay_out : (n k : ℕ) (ss : List Stray) → AreOutside us ss
       → arrived (moves_below ms t vs n [] k (kept_strays ss)) i ≡ []
   strays_stay_out n k [] h = refl
   strays_stay_out n k (s ∷ ss) h =
@@ -480,7 +476,7 @@ module _ (i : ℕ) (ms : List Mod) (t u x : WideTree) (us : List DocUnit) (made 
       ∙ filter_map-append (kept_in_unit j) (moves_below ms t vs i p 0 ks)
       (moves_below ms t vs (length us) [] 0 (kept_strays ss))
 
-  unit_arrives : (pss : List KeptParts) (ss : List Stray) → AllOut ss → (v : DocUnit) (ks : KeptParts)
+  unit_arrives : (pss : List KeptParts) (ss : List Stray) → AreOutside us ss → (v : DocUnit) (ks : KeptParts)
       → slice_get us i ≡ Some v → slice_get pss i ≡ Some ks
       → parts_within ms t v ks ≡ arrived (part_moves 0 ms t us pss (kept_strays ss) vs) i
   unit_arrives pss ss out v ks at has_parts =
@@ -490,14 +486,15 @@ module _ (i : ℕ) (ms : List Mod) (t u x : WideTree) (us : List DocUnit) (made 
       ∙ ap (λ xs. arrived (moves_below ms t vs i p 0 ks) i ++ xs) (sym (strays_stay_out (length us) 0 ss out))
       ∙ sym (all_arrive pss ks ss i has_parts)
 
-  parts_same : (pss : List KeptParts) (ss : List Stray) → AllOut ss → length pss ≡ length us
+  parts_same : (pss : List KeptParts) (ss : List Stray) → AreOutside us ss → length pss ≡ length us
       → parts_but ms t i us pss
       ≡ all_parts_now pss (part_moves 0 ms t us pss (kept_strays ss) vs) 0 (numbers_but i 0 (length us))
   parts_same pss ss out many =
       all_now ms t pss (part_moves 0 ms t us pss (kept_strays ss) vs) i i 0 us pss (omega arith) many
       (λ m n is. ap (slice_get pss) (omega (arith, is))) (unit_arrives pss ss out)
 
-  strays_same : (pss : List KeptParts) (ks : KeptParts) (ss : List Stray) → AllOut ss → slice_get pss i ≡ Some ks
+  strays_same : (pss : List KeptParts) (ks : KeptParts) (ss : List Stray) → AreOutside us ss
+      → slice_get pss i ≡ Some ks
       → kept_strays (strays_beside i us ss)
       ≡ arrived (part_moves 0 ms t us pss (kept_strays ss) vs) (length vs)
   strays_same pss ks ss out at =
@@ -555,29 +552,24 @@ changes i ms us one = by one.unit.path refl one.changed
         let all : (is_gone q ms ≡ true) × (are_within q ms ≡ true) = both (is_gone q ms) (are_within q ms) f in
         record { path = q; has = e; gone = all.0; within = all.1 }
 
-module _ (i : ℕ) (ms : List Mod) (t u x : WideTree) (kept : Kept) (pss : List KeptParts) (ss : List Stray)
-    (made : changed_by_all ms t ≡ Some u) (are : AreUnits (units_of kept)) (one : IsOneChanged i 0 ms (units_of kept))
-    (hold : AllPartsHold kept pss) (strays : AreStrays (units_of kept) ss) where
+module _ (i : ℕ) (ms : List Mod) (t u x : WideTree) (us : List DocUnit) (pss : List KeptParts) (ss : List Stray)
+    (made : changed_by_all ms t ≡ Some u) (are : AreUnits us) (one : IsOneChanged i 0 ms us)
+    (many : length pss ≡ length us) (out : AreOutside us ss) where
   abbrev change : ChangesWithin ms one.unit
-  change = changes i ms (units_of kept) one
+  change = changes i ms us one
 
-  pub parts_in_place : CarryWithin i ms t (units_of kept) pss
-      ≡ CarryParts pss
-      (PartMoves 0 ms t (units_of kept) pss (kept_strays ss) (units_with i x (units_of kept)))
-      (Sources 0 ms t (units_of kept) (units_with i x (units_of kept)))
+  pub parts_in_place : CarryWithin i ms t us pss
+      ≡ CarryParts pss (PartMoves 0 ms t us pss (kept_strays ss) (units_with i x us))
+      (Sources 0 ms t us (units_with i x us))
   unfolding CarryWithin CarryParts PartMoves Sources
   parts_in_place =
-      parts_same i ms t u x (units_of kept) made are one change.path change.has change.gone change.within pss ss
-      strays.outside (many_parts kept pss hold)
-      ∙ ap (all_parts_now pss (part_moves 0 ms t (units_of kept) pss (kept_strays ss) (units_with i x (units_of kept)))
-      0) (numbers_same i ms t u x (units_of kept) made are one)
+      parts_same i ms t u x us made are one change.path change.has change.gone change.within pss ss out many
+      ∙ ap (all_parts_now pss (part_moves 0 ms t us pss (kept_strays ss) (units_with i x us)) 0)
+      (numbers_same i ms t u x us made are one)
 
-  pub strays_in_place : kept_strays (StraysBeside i (units_of kept) ss)
-      ≡ CarryStrays (PartMoves 0 ms t (units_of kept) pss (kept_strays ss) (units_with i x (units_of kept)))
-      (length (units_with i x (units_of kept)))
+  pub strays_in_place : kept_strays (StraysBeside i us ss)
+      ≡ CarryStrays (PartMoves 0 ms t us pss (kept_strays ss) (units_with i x us)) (length (units_with i x us))
   unfolding StraysBeside CarryStrays PartMoves
   strays_in_place =
-      let many : length pss ≡ length (units_of kept) = many_parts kept pss hold in
-      let own = there_is pss i (omega (arith, many, slice_get_within (units_of kept) i one.unit one.there)) in
-      strays_same i ms t u x (units_of kept) made are one change.path change.has change.gone change.within pss own.0 ss
-      strays.outside own.1
+      let own = there_is pss i (omega (arith, many, slice_get_within us i one.unit one.there)) in
+      strays_same i ms t u x us made are one change.path change.has change.gone change.within pss own.0 ss out own.1

@@ -33,11 +33,15 @@ pub record HoldsStray (s : Stray) : Type 0 where
   pub is : s.kept.trace ≡ Some trace
   pub supports : Supports trace (alone s.tree)
 
--- so it is of each, no two have one path, and none stands in a unit
+-- none stands in a unit
+abbrev pub AreOutside : List DocUnit → List Stray → Type 0
+AreOutside us ss = AllByRecursion (λ s. NoneAbove s.kept.path us) ss
+
+-- each trace supports its tree, no two have one path, and none stands in a unit
 pub record AreStrays (us : List DocUnit) (ss : List Stray) : Type 0 where
   pub hold : AllByRecursion HoldsStray ss
   pub distinct : IsDistinct bytes_eq (map (λ k. k.path) (kept_strays ss))
-  pub outside : AllByRecursion (λ s. NoneAbove s.kept.path us) ss
+  pub outside : AreOutside us ss
 
 -- the trees stand in the document
 abbrev pub StandAside : WideTree → List Stray → Type 0

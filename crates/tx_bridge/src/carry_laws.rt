@@ -13,28 +13,27 @@ ghost use Rattle.tx_bridge.specs.InPlace.{IsOneChanged};
 ghost use Rattle.tx_bridge.specs.KeptInDocument.{kept_behind, CameAlong};
 ghost use Rattle.tx_bridge.specs.Names.{CarryParts, CarryStrays, CarryWithin, PartMoves, Sources, StraysBeside};
 ghost use Rattle.tx_bridge.specs.PartsKept.{KeptParts};
-ghost use Rattle.tx_bridge.specs.Strays.{Stray, AreStrays, StandAside, kept_strays};
+ghost use Rattle.tx_bridge.specs.Strays.{Stray, AreOutside, AreStrays, StandAside, kept_strays};
 ghost use Rattle.tx_bridge.specs.UnitLists.{AreUnits};
 
 use tx_mod::{carried_law, carried_list_law};
 
 /// A law: where an edit of the document changes the tree of one paragraph alone, what `carry_in_place` says of parts
-/// and of strays is what `carry` says. Of the new tree nothing is asked.
+/// and of strays is what `carry` says. Nothing is asked of the new tree, nor of the traces: so it holds of whatever
+/// goes with parts and strays by their paths.
 pub fn in_place_law()
-    ensures parts { (i : ℕ) (ms : List Change) (t u tree : WideTree) (kept : Kept) (parts : List KeptParts)
-        (strays : List Stray) → changed_by_all ms t ≡ Some u → AreUnits (units_of kept)
-        → IsOneChanged i 0 ms (units_of kept) → AllPartsHold kept parts → AreStrays (units_of kept) strays
-        → CarryWithin i ms t (units_of kept) parts
-        ≡ CarryParts parts
-        (PartMoves 0 ms t (units_of kept) parts (kept_strays strays) (units_with i tree (units_of kept)))
-        (Sources 0 ms t (units_of kept) (units_with i tree (units_of kept))) }
-    ensures strays { (i : ℕ) (ms : List Change) (t u tree : WideTree) (kept : Kept) (parts : List KeptParts)
-        (strays : List Stray) → changed_by_all ms t ≡ Some u → AreUnits (units_of kept)
-        → IsOneChanged i 0 ms (units_of kept) → AllPartsHold kept parts → AreStrays (units_of kept) strays
-        → kept_strays (StraysBeside i (units_of kept) strays)
-        ≡ CarryStrays
-        (PartMoves 0 ms t (units_of kept) parts (kept_strays strays) (units_with i tree (units_of kept)))
-        (length (units_with i tree (units_of kept))) }
+    ensures parts { (i : ℕ) (ms : List Change) (t u tree : WideTree) (us : List DocUnit) (parts : List KeptParts)
+        (strays : List Stray) → changed_by_all ms t ≡ Some u → AreUnits us → IsOneChanged i 0 ms us
+        → length parts ≡ length us → AreOutside us strays
+        → CarryWithin i ms t us parts
+        ≡ CarryParts parts (PartMoves 0 ms t us parts (kept_strays strays) (units_with i tree us))
+        (Sources 0 ms t us (units_with i tree us)) }
+    ensures strays { (i : ℕ) (ms : List Change) (t u tree : WideTree) (us : List DocUnit) (parts : List KeptParts)
+        (strays : List Stray) → changed_by_all ms t ≡ Some u → AreUnits us → IsOneChanged i 0 ms us
+        → length parts ≡ length us → AreOutside us strays
+        → kept_strays (StraysBeside i us strays)
+        ≡ CarryStrays (PartMoves 0 ms t us parts (kept_strays strays) (units_with i tree us))
+        (length (units_with i tree us)) }
 {}
 
 /// A law: what `carry` says of parts and strays, read by paths of the document. Where an edit of the document changes

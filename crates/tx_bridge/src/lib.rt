@@ -32,4 +32,5 @@ pub use keeping::all_keep_place;
 pub use laws::{bound_law, keeping_law, spare_law, staying_law, staying_parts_law, unit_list_laws};
 pub use moments::{Moment, over_value};
 pub use paths_after::places_after;
+pub use tx_walk::{Closed, Layer, Opener, Part, Shell};
 pub use unit_parts::has_parts;

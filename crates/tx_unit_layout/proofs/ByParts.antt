@@ -30,11 +30,11 @@ use Rattle.tx_bridge.specs.HeldParts.{kept_parts, flags_of_parts}
 use Rattle.tx_bridge.specs.PartsKept.{has_parts}
 use Rattle.tx_unit_layout.specs.LaidAts.{LaidAt, laid_at, laid_ats, shown_at, shown_parts_of, is_by_parts}
 use Rattle.tx_unit_layout.specs.LaidAts.{items_by_parts, unit_items_anew}
-use Rattle.tx_unit_layout.specs.LaidUnits.{IsLaidOut, AreLaidParts}
+use Rattle.tx_unit_layout.specs.LaidUnits.{IsLaidOut, AreOf, AreLaidParts}
 use Rattle.tx_unit_layout.specs.Views.{unit_view, IsReadable}
 use Rattle.tx_unit_layout.specs.declared.shown.Shown.{Shown}
 use Rattle.tx_unit_layout.proofs.DoneParts.{values_are}
-use Rattle.tx_unit_layout.proofs.Renewed.{laid_parts}
+use Rattle.tx_unit_layout.proofs.Renewed.{are_of, laid_parts}
 use Rattle.tx_unit_layout.proofs.Reusing.{anew_alike, anew_within, at_some}
 
 -- what the parts show, by what is kept of them
@@ -153,6 +153,9 @@ module _ (width : ℕ) (a : Attrs) (u : DocUnit) (trace : WideTrace) (ds : List 
     -- of what its parts are laid out
     pub ats_by_parts : map laid_at x.parts ≡ laid_ats a e (kept_parts ds)
     ats_by_parts = ap (map laid_at) is.parts ∙ laid_ats_are a e ds l.parts.items by_parts laid.parts
+
+    pub of_by_parts : AreOf (kept_parts ds) x.parts
+    of_by_parts = subst (AreOf (kept_parts ds)) (sym is.parts) (are_of l.parts.items ds shows.paths shows.values)
 
     pub parts_by_parts : IsDistinct bytes_eq (paths_of ds) → AreLaidParts width (kept_parts ds) x.parts
     parts_by_parts distinct =

@@ -11,14 +11,15 @@ use Rattle.tx_exec_form.specs.Evaluated.{WideTrace}
 use Rattle.tx_exec.specs.Outcomes.{wide_trace}
 use Rattle.tx_parts.specs.Parts.{Stored}
 use Rattle.tx_walk.specs.declared.part.Part.{Part as DonePart}
+use Rattle.tx_units.specs.declared.kinds.Unit.{Unit as DocUnit}
 use Rattle.tx_walk.specs.Walked.{paths_of}
 use Rattle.tx_items.specs.declared.attributes.Attrs.{Attrs}
-use Rattle.tx_view_form.specs.Outcomes.{unit_value}
+use Rattle.tx_view_form.specs.Outcomes.{Moment, unit_value}
 use Rattle.tx_part_layout.specs.declared.laid.PlacedPart.{PlacedPart}
 use Rattle.tx_part_layout.specs.LaidParts.{IsLaidPart, IsOfValue, laid_paths}
-use Rattle.tx_bridge.specs.Entries.{Entry}
+use Rattle.tx_bridge.specs.Entries.{Entry, outcome_of}
 use Rattle.tx_bridge.specs.HeldParts.{kept_part, kept_parts, flags_of_parts}
-use Rattle.tx_bridge.specs.PartsKept.{KeptParts, kept_at}
+use Rattle.tx_bridge.specs.PartsKept.{KeptParts, kept_at, has_parts, parts_if_done, unit_parts, fresh_parts}
 use Rattle.tx_unit_layout.specs.LaidAts.{laid_at, laid_ats, shown_at, shown_parts_of, is_by_parts}
 use Rattle.tx_unit_layout.specs.LaidUnits.{IsLaidOut, AreOf, AreLaidParts, Stays, WasLaid}
 use Rattle.tx_unit_layout.specs.declared.shown.Shown.{Shown}
@@ -106,7 +107,7 @@ all_of_value width held ps ds laid stays =
 abbrev pub values_of : List PlacedPart → List WideValue
 values_of ps = map (λ p. p.laid.value.value) ps
 
-are_of : (ps : List PlacedPart) (ds : List DonePart) → laid_paths ps ≡ paths_of ds
+pub are_of : (ps : List PlacedPart) (ds : List DonePart) → laid_paths ps ≡ paths_of ds
     → values_of ps ≡ map (λ d. d.trace.value) ds → AreOf (kept_parts ds) ps
 are_of [] [] paths values = tt
 are_of [] (d ∷ ds) paths values = cc
@@ -147,9 +148,9 @@ same_attrs a b o h g = let both : Some a ≡ Some b = sym h ∙ g in cc
 module _ (width : ℕ) (e : Entry) (ds : List DonePart) (a : Attrs) (x : Shown)
     (distinct : IsDistinct bytes_eq (paths_of ds)) (path : x.path ≡ e.unit.path) (laid : x.laid ≡ Some a)
     (out : IsLaidOut width a (unit_value e.trace) e.unit.path x) where
-  pub now_laid : map laid_at x.parts ≡ laid_ats a e (kept_parts ds) → AreLaidParts width (kept_parts ds) x.parts
-      → WasLaid width e (kept_parts ds) (flags_of_parts ds) x
-  now_laid by_parts parts = record {
+  pub now_laid : map laid_at x.parts ≡ laid_ats a e (kept_parts ds) → AreOf (kept_parts ds) x.parts
+      → AreLaidParts width (kept_parts ds) x.parts → WasLaid width e (kept_parts ds) (flags_of_parts ds) x
+  now_laid by_parts of parts = record {
     held = kept_parts ds;
     stays = all_stay ds (flags_of_parts ds) distinct;
     laid = record {
@@ -159,35 +160,50 @@ module _ (width : ℕ) (e : Entry) (ds : List DonePart) (a : Attrs) (x : Shown)
           (same_attrs a b x.laid laid is) out;
       by_parts = λ b is.
           by_parts ∙ ap (λ c. laid_ats c e (kept_parts ds)) (same_attrs a b x.laid laid is);
+      each_part = λ b is. of;
       same = λ b is. refl;
       parts = parts;
     };
   }
 
-  whole_laid : is_by_parts e ≡ false → x.parts ≡ [] → WasLaid width e (kept_parts ds) (flags_of_parts ds) x
-  whole_laid whole none =
+  whole_laid : is_by_parts e ≡ false → kept_parts ds ≡ [] → x.parts ≡ []
+      → WasLaid width e (kept_parts ds) (flags_of_parts ds) x
+  whole_laid whole nothing none =
       now_laid
       (ap (map laid_at) none
       ∙ sym (ap (λ b. if b then map shown_at (shown_parts_of a e (kept_parts ds)) else []) whole))
+      (subst (AreOf (kept_parts ds)) (sym none) (subst (λ (ks : KeptParts). AreOf ks []) (sym nothing) tt))
       (no_parts width (kept_parts ds) x.parts none)
 
 -- so a unit with this path and this value, of which this call answers
 pub laid_whole : {X E : Type 0} (r : Result X E) (width : ℕ) (e : Entry) (ds : List DonePart) (a : Attrs)
     (v : WideValue) (path : Option (List ℕ)) (x : Shown) → IsDistinct bytes_eq (paths_of ds) → is_by_parts e ≡ false
-    → path ≡ e.unit.path → v ≡ unit_value e.trace → OnOk r (IsLaidOut width a v path x) → OnOk r (x.laid ≡ Some a)
-    → OnOk r (x.parts ≡ []) → OnOk r (WasLaid width e (kept_parts ds) (flags_of_parts ds) x)
-laid_whole (Ok n) width e ds a v path x distinct whole at value out laid none =
+    → kept_parts ds ≡ [] → path ≡ e.unit.path → v ≡ unit_value e.trace → OnOk r (IsLaidOut width a v path x)
+    → OnOk r (x.laid ≡ Some a) → OnOk r (x.parts ≡ []) → OnOk r (WasLaid width e (kept_parts ds) (flags_of_parts ds) x)
+laid_whole (Ok n) width e ds a v path x distinct whole nothing at value out laid none =
     let there : IsLaidOut width a (unit_value e.trace) e.unit.path x =
     subst (λ (p : Option (List ℕ)). IsLaidOut width a (unit_value e.trace) p x) at
     (subst (λ (w : WideValue). IsLaidOut width a w path x) value out) in
-    whole_laid width e ds a x distinct (there.shown.path_is) laid there whole none
-laid_whole (Err f) width e ds a v path x distinct whole at value out laid none = tt
+    whole_laid width e ds a x distinct (there.shown.path_is) laid there whole nothing none
+laid_whole (Err f) width e ds a v path x distinct whole nothing at value out laid none = tt
 
 -- ---- units that are laid out whole
 
 pub over_whole : (b : Bool) (o : Option WideTrace) → o ≡ None → b && is_some o ≡ false
 over_whole true o h = ap (λ (t : Option WideTrace). is_some t) h
 over_whole false o h = refl
+
+-- nothing is kept of their parts
+pub no_parts_kept : (m : Moment) (u : DocUnit) (o : Option WideTrace) (ks : KeptParts)
+    → has_parts u && is_some o ≡ false → o ≡ outcome_of m u → ks ≡ fresh_parts m u → ks ≡ []
+no_parts_kept m u o ks whole is kept =
+    kept ∙ by (has_parts u) (outcome_of m u) (ap (λ r. has_parts u && is_some r) (sym is) ∙ whole)
+  where
+    by : (b : Bool) (r : Option WideTrace) → b && is_some r ≡ false
+        → (if b then parts_if_done r (unit_parts m u) else []) ≡ []
+    by true None h = refl
+    by true (Some trace) h = cc
+    by false r h = refl
 
 pub plain_whole : (b : Bool) (o : Option WideTrace) → b ≡ false → b && is_some o ≡ false
 plain_whole b o h = ap (λ c. c && is_some o) h

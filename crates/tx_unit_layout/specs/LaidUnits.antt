@@ -55,12 +55,13 @@ Stays held ks fs = (k : ℕ) (s : Stored) → slice_get ks k ≡ Some s → slic
 -- ---- a unit
 
 -- What is shown has the unit's path. Where the unit is laid out for some attributes, it shows what its trace shows
--- behind these, its parts are laid out for the attributes before each, and what is kept of them is what was held. In
--- any case, what is laid out of a part is of what was held of it.
+-- behind these, each of its parts is laid out for the attributes before it, and what is kept of them is what was held.
+-- In any case, what is laid out of a part is of what was held of it.
 pub record IsLaid (width : ℕ) (e : Entry) (ks held : KeptParts) (x : Shown) : Type 0 where
   pub path : x.path ≡ e.unit.path
   pub laid : (a : Attrs) → x.laid ≡ Some a → IsLaidOut width a (unit_value e.trace) e.unit.path x
   pub by_parts : (a : Attrs) → x.laid ≡ Some a → map laid_at x.parts ≡ laid_ats a e ks
+  pub each_part : (a : Attrs) → x.laid ≡ Some a → AreOf ks x.parts
   pub same : (a : Attrs) → x.laid ≡ Some a → ks ≡ held
   pub parts : AreLaidParts width held x.parts
 

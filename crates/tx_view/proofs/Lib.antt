@@ -20,6 +20,9 @@ pub mod Adding
 pub mod Comers
 pub mod Moved
 pub mod Staying
+pub mod LaidTogether
+pub mod LaidAlone
+pub mod LaidCarried
 pub mod Blank
 pub mod Changing
 pub mod Exchanging

@@ -258,6 +258,7 @@ one_moved width old pss olds kss placed all moves j (Some i) v x laid move blank
               out_there width a (unit_value e.trace) e.unit.path v.path x.path y (sym both.1) blank.path_is
               (h.0.laid a is);
           by_parts = λ a is. h.0.by_parts a is ∙ same_ats a ks e.trace e.unit v both.0 both.1;
+          each_part = h.0.each_part;
           same = λ a is. refl;
           parts = h.0.parts;
         }
@@ -475,7 +476,7 @@ many_parts width (e ∷ es) [] ys h = absurd h
 many_parts width (e ∷ es) (ks ∷ pss) [] h = absurd h
 many_parts width (e ∷ es) (ks ∷ pss) (y ∷ ys) h = ap suc (many_parts width es pss ys h.1)
 
-places_many : (ms : List Mod) (t : WideTree) (us : List DocUnit) → length (unit_places_after ms t us) ≡ length us
+pub places_many : (ms : List Mod) (t : WideTree) (us : List DocUnit) → length (unit_places_after ms t us) ≡ length us
 places_many ms t [] = refl
 places_many ms t (u ∷ us) = ap suc (places_many ms t us)
 

@@ -28,7 +28,7 @@ use Rattle.tx_bridge.specs.PartMoves.{Move}
 use Rattle.tx_bridge.specs.Strays.{is_beside, path_at}
 use Rattle.tx_bridge.specs.PartsKept.{KeptParts}
 use Rattle.tx_unit_layout.specs.LaidAts.{LaidAt, laid_at, laid_ats}
-use Rattle.tx_unit_layout.specs.LaidUnits.{IsLaid, IsLaidOut, AreLaidParts}
+use Rattle.tx_unit_layout.specs.LaidUnits.{IsLaid, IsLaidOut, AreOf, AreLaidParts}
 use Rattle.tx_unit_layout.specs.Moving.{wide_part, laid_by}
 use Rattle.tx_unit_layout.specs.Views.{unit_view, IsReadable}
 use Rattle.tx_unit_layout.specs.declared.shown.Shown.{Shown}
@@ -112,6 +112,7 @@ one_left width ms t ps e ks v o y x laid left path are apart = record {
   path = ap (λ (z : Shown). z.path) left ∙ laid.path ∙ sym path;
   laid = λ a there. absurd (off a there);
   by_parts = λ a there. absurd (off a there);
+  each_part = λ a there. absurd (off a there);
   same = λ a there. refl;
   parts =
       subst (λ (z : Shown). AreLaidParts width (parts_within ms t e.unit ks) z.parts) (sym left)
@@ -136,6 +137,9 @@ one_stays width e ks v o y x laid same path tree is = record {
   by_parts = λ a there.
       ap (λ (z : Shown). map laid_at z.parts) same ∙ laid.by_parts a (ap (λ (z : Shown). z.laid) (sym same) ∙ there)
       ∙ same_ats a ks e.trace e.unit v tree (ap is_some path) ∙ ap (λ r. laid_ats a (entry v r) ks) (sym is);
+  each_part = λ a there.
+      subst (λ (z : Shown). AreOf ks z.parts) (sym same)
+      (laid.each_part a (ap (λ (z : Shown). z.laid) (sym same) ∙ there));
   same = λ a there. refl;
   parts = subst (λ (z : Shown). AreLaidParts width ks z.parts) (sym same) laid.parts;
 }

@@ -55,7 +55,7 @@ strays_after buffer ms t us pss strays vs =
     option_map_or (λ i. filter (λ k. is_beside (path_at i us) k.path) strays) (exchanged buffer ms t us)
     (CarryStrays (PartMoves buffer ms t us pss strays vs) (length vs))
 
--- ---- what is laid out of parts
+-- ---- what is laid out of parts, said so as well (`LaidMoves.antt` says it once for all ways)
 
 -- what is laid out of a part of the unit at p goes with it to where it stands afterwards
 abbrev pub laid_behind : List Mod → WideTree → List ℕ → LaidAt → Option LaidAt

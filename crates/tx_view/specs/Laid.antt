@@ -7,6 +7,7 @@ use Rattle.tx_tree.specs.WideTree.{WideTree}
 use Rattle.tx_env.specs.Environments.{NameMap}
 use Rattle.tx_mod.specs.declared.mods.Mod.{Mod}
 use Rattle.tx_units.specs.declared.kinds.Unit.{Unit as DocUnit}
+use Rattle.tx_units.specs.Units.{units_with}
 use Rattle.tx_items.specs.declared.attributes.Attrs.{Attrs}
 use Rattle.tx_view_form.specs.Outcomes.{Moment, behind, env_behind, unit_value}
 use Rattle.tx_view_form.specs.Positions.{IsShort}
@@ -17,7 +18,8 @@ use Rattle.tx_bridge.specs.Entries.{Entry, Kept, outcome_of}
 use Rattle.tx_bridge.specs.CarryingParts.{carried_below}
 use Rattle.tx_bridge.specs.InPlace.{numbers_but, IsOneChanged}
 use Rattle.tx_bridge.specs.MovedParts.{places_by}
-use Rattle.tx_bridge.specs.PartMoves.{Move}
+use Rattle.tx_bridge.specs.Names.{Sources}
+use Rattle.tx_bridge.specs.PartMoves.{Move, NoneAbove}
 use Rattle.tx_bridge.specs.Strays.{kept_strays, is_beside, path_at}
 use Rattle.tx_bridge.specs.PartsKept.{KeptParts}
 use Rattle.tx_part_layout.specs.LaidParts.{is_before}
@@ -29,7 +31,8 @@ use Rattle.tx_unit_layout.specs.Moving.{WidePart, wide_part, put_at, laid_by}
 use Rattle.tx_unit_layout.specs.Views.{unit_view}
 use Rattle.tx_unit_layout.specs.declared.shown.Shown.{Shown}
 use Rattle.tx_view.specs.Costs.{items_at}
-use Rattle.tx_view.specs.Exchanged.{exchanged}
+use Rattle.tx_view.specs.Exchanged.{exchanged, left_but}
+use Rattle.tx_view.specs.LaidMoves.{laid_moves, laid_come, carried_laid}
 use Rattle.tx_view.specs.Stores.{ViewStores, HasUnitOf}
 use Rattle.tx_layout.specs.Paging.{Unmarked}
 use Rattle.tx_view.specs.declared.carrying.Former.{Former}
@@ -273,10 +276,30 @@ IsTarget us vs ss (InPlace i silent ps) =
     (ss ≡ numbers_but i 0 (length vs)) × (map (λ v. v.path) vs ≡ map (λ u. u.path) us)
 IsTarget us vs ss (Onto blanks) = Unit {0}
 
+-- none of what is laid out at these paths stands in a unit
+abbrev pub AreLaidOutside : List DocUnit → List LaidAt → Type 0
+AreLaidOutside us ls = AllByRecursion (λ l. NoneAbove l.path us) ls
+
+-- Where the unit of number i alone changes, and has the tree x then, what is left of what is laid out of parts, and of
+-- strays, is what goes by its path.
+unfoldable pub LaidGoes : ℕ → List Mod → WideTree → WideTree → List DocUnit → Type 0
+LaidGoes i ms t x us = (lss : List (List LaidAt)) (ls : List LaidAt) → length lss ≡ length us → AreLaidOutside us ls
+    → (left_but ms t i us lss
+    ≡ carried_laid lss (laid_moves 0 ms t us lss ls (units_with i x us)) 0 (Sources 0 ms t us (units_with i x us)))
+    × (filter (λ l. is_beside (path_at i us) l.path) ls
+    ≡ laid_come (laid_moves 0 ms t us lss ls (units_with i x us)) (length (units_with i x us)))
+
+-- the units vs are us, of which that of number i alone has changed
+pub record HaveOneChanged (i : ℕ) (ms : List Mod) (t : WideTree) (us vs : List DocUnit) : Type 0 where
+  pub tree : WideTree
+  pub are : vs ≡ units_with i tree us
+  pub laid : LaidGoes i ms t tree us
+
 -- It stays in place where one paragraph is found to change alone. Each new unit has the tree of the old one that it is.
 abbrev pub IsWay : ℕ → List Mod → WideTree → List DocUnit → List DocUnit → List (Option ℕ) → Target → Type 0
 IsWay buffer ms t us vs ss (InPlace i silent ps) =
     (exchanged buffer ms t us ≡ Some i) × IsOneChanged i buffer ms us × HaveSameTrees us vs ss
+    × HaveOneChanged i ms t us vs
 IsWay buffer ms t us vs ss (Onto blanks) = (exchanged buffer ms t us ≡ None) × HaveSameTrees us vs ss
 
 abbrev pub IsFew : Target → Type 0

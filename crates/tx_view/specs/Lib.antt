@@ -7,6 +7,7 @@ pub mod Names
 pub mod Laid
 pub mod Lone
 pub mod Exchanged
+pub mod LaidMoves
 pub mod Near
 pub mod Rows
 pub mod RowParts

@@ -11,8 +11,8 @@ use Rattle.tx_bridge.specs.Entries.{units_of, nothing_kept}
 use Rattle.tx_bridge.specs.Sound.{AllHold}
 use Rattle.tx_bridge.specs.HeldParts.{AllPartsHold, StoredAllHold}
 use Rattle.tx_bridge.specs.Names.{Charge, Sources, CarryTraces as CarryKept, CarryParts, CarryStrays, PartMoves}
-use Rattle.tx_view.specs.Exchanged.{laid_parts_after, laid_strays_after}
 use Rattle.tx_view.specs.Costs.{items_relaid_from}
+use Rattle.tx_view.specs.LaidMoves.{laid_moves, laid_come, carried_laid}
 use Rattle.tx_view.specs.Stores.{ViewStores, fresh_stores, IsOfKeptPart, AllLaidAreKept}
 
 -- nothing is kept of the units of these buffers
@@ -37,7 +37,8 @@ Fresh buffers = fresh_stores (units buffers)
 unfoldable pub Bound : ViewStores → ℕ
 Bound s = Charge s.kept s.parts + items_relaid_from beginning s.kept s.parts s.laid s.laid_parts
 
--- what stays of what is kept, where the modifications of a buffer make the new buffers of the old ones
+-- What stays of what is kept, where the modifications of a buffer make the new buffers of the old ones: of units, of
+-- their parts and of strays. What is laid out of a part goes by its path, each by itself.
 unfoldable pub Carry : ℕ → List Mod → List Buffer → ViewStores → List Buffer → ViewStores
 Carry buffer ms old s new = record {
   kept = CarryKept buffer ms (tree_of old buffer) s.kept (units new);
@@ -46,14 +47,16 @@ Carry buffer ms old s new = record {
       (Sources buffer ms (tree_of old buffer) (units_of s.kept) (units new));
   laid = map (had s.laid) (Sources buffer ms (tree_of old buffer) (units_of s.kept) (units new));
   laid_parts =
-      laid_parts_after buffer ms (tree_of old buffer) (units_of s.kept) s.parts s.strays s.laid_parts s.laid_strays
-      (units new) (Sources buffer ms (tree_of old buffer) (units_of s.kept) (units new));
+      carried_laid s.laid_parts
+      (laid_moves buffer ms (tree_of old buffer) (units_of s.kept) s.laid_parts s.laid_strays (units new)) 0
+      (Sources buffer ms (tree_of old buffer) (units_of s.kept) (units new));
   strays =
       CarryStrays (PartMoves buffer ms (tree_of old buffer) (units_of s.kept) s.parts s.strays (units new))
       (length (units new));
   laid_strays =
-      laid_strays_after buffer ms (tree_of old buffer) (units_of s.kept) s.parts s.strays s.laid_parts s.laid_strays
-      (units new);
+      laid_come
+      (laid_moves buffer ms (tree_of old buffer) (units_of s.kept) s.laid_parts s.laid_strays (units new))
+      (length (units new));
 }
 
 -- What is kept is of the units of these buffers, of their parts, and of strays, which are places of the document. The

@@ -1,5 +1,5 @@
 -- A view, as contracts see it.
-use Rattle.std.specs.Prelude.{◌≡◌, ℕ, ◌≤◌, Bool, true, false, if◌then◌else◌, List, [], length, Option, IfSome, All}
+use Rattle.std.specs.Prelude.{◌≡◌, ℕ, ◌≤◌, Bool, true, false, if◌then◌else◌, List, [], length, map, Option, IfSome, All}
 use Rattle.std.specs.Prelude.{refl}
 use Rattle.std.specs.Coded.{Coded, code_by, coded×, coded_list, coded_option, coded_ℕ, coded_bool}
 use Rattle.std.specs.List.{AllByRecursion}
@@ -19,8 +19,10 @@ use Rattle.tx_view_form.specs.Views.{UnitView, WideView, IsView}
 use Rattle.tx_units.specs.Units.{units}
 use Rattle.tx_bridge.specs.Entries.{units_of}
 use Rattle.tx_bridge.specs.Strays.{StandAside, kept_strays}
+use Rattle.tx_unit_layout.specs.LaidAts.{laid_at}
 use Rattle.tx_unit_layout.specs.LaidUnits.{AreLaidParts}
-use Rattle.tx_view.specs.Laid.{all_stores_in, AreLaid, HasShortPlaces}
+use Rattle.tx_view.specs.Laid.{all_stores_in, AreLaid, HasShortPlaces, laid_parts_in}
+use Rattle.tx_view.specs.LaidMoves.{AreLaidAlike}
 use Rattle.tx_view.specs.Lone.{IsLone, WerePages}
 use Rattle.tx_view.specs.Names.{Fresh}
 use Rattle.tx_view.specs.Stores.{ViewStores, coded_Stores}
@@ -82,6 +84,8 @@ pub record IsKept (v : Inside) : Type 0 where
   pub strays : AreLaidParts v.width (kept_strays v.bridges.strays) v.strays
   pub short : AllByRecursion HasShortPlaces v.strays
   pub aside : StandAside (document_of v.buffers.items) v.bridges.strays
+  pub alike :
+      AreLaidAlike v.bridges.parts (laid_parts_in (all_of v)) (kept_strays v.bridges.strays) (map laid_at v.strays)
   pub rows : v.paged.rows.items ≡ sums_from 0 (row_counts (unit_views v.units.items))
   pub errors : v.paged.errors.items ≡ sums_from 0 (error_counts (unit_views v.units.items))
   pub lone : IfSome v.lone (λ l. IsLone v.bridges.kept v.hidden.items l.unit l.attrs

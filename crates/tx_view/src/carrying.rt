@@ -7,6 +7,7 @@ ghost use Rattle.tx_mod.specs.InTurn.{cost_of};
 ghost use Rattle.tx_doc.specs.Buffers.{document_of, tree_of, with_tree};
 ghost use Rattle.tx_units.specs.Units.{units, made};
 ghost use Rattle.tx_bridge.specs.Entries.{Entry, units_of};
+ghost use Rattle.tx_bridge.specs.InPlace.{IsOneChanged};
 ghost use Rattle.tx_bridge.specs.MovedParts.{moves_of};
 ghost use Rattle.tx_bridge.specs.Names.{CarryTraces, CarryParts, CarryStrays, PartMoves, Sources};
 ghost use Rattle.tx_bridge.specs.Strays.{StandAside, kept_strays};
@@ -19,7 +20,7 @@ ghost use Rattle.tx_view.specs.Exchanged.{IsNow, IsExchanged, stays_alone, excha
 ghost use Rattle.tx_view.specs.Laid.{IsBlank, AreBlank, HaveArrived, placed_in, placed_beside, going, taking_shown};
 ghost use Rattle.tx_view.specs.Laid.{source_shown, moved};
 ghost use Rattle.tx_view.specs.Laid.{ArePutBy, left_with, StayBut, IsLeft, IsWay, IsTarget, IsFew, HasGone, SetNoName};
-ghost use Rattle.tx_view.specs.Laid.{WasShown, IsFormer, AreLaid};
+ghost use Rattle.tx_view.specs.Laid.{WasShown, IsFormer, AreLaid, LaidGoes};
 
 use crate::arriving::put_either;
 use crate::sharing::shared;
@@ -27,7 +28,7 @@ use std::alloc::Global;
 use std::mem;
 use std::sync::ledger::Ledger;
 use tx_base::{Memory, Steps};
-use tx_bridge::{Bridges, is_silent, unit_list_laws};
+use tx_bridge::{Bridges, in_place_law, is_silent, unit_list_laws};
 use tx_doc::Buffer;
 use tx_items::Attrs;
 use tx_mod::Mod;
@@ -431,6 +432,17 @@ fn keep_beside(bridges: &Bridges, unit: usize, strays: &mut LaidParts)
     }
 }
 
+// A law: where the unit of this number alone changes, and has this tree then, what is left of what is laid out of parts
+// goes by its path.
+fn laid_goes_law(bridges: &Bridges, before: &Tree, mods: &[Mod], tree: &Tree, changed: usize)
+    requires applies { (u : WideTree) × (changed_by_all mods.now before.now ≡ Some u) }
+    requires units { AreUnits (units_of bridges.now.kept) }
+    requires changed { IsOneChanged changed 0 mods.now (units_of bridges.now.kept) }
+    ensures { LaidGoes changed mods.now before.now tree.now (units_of bridges.now.kept) }
+{
+    in_place_law();
+}
+
 // What is kept of the old units goes to those of the buffers after the edit, and what is shown is to go to the target.
 fn carried_kept<L: Ledger>(
     alloc: Global,
@@ -499,6 +511,7 @@ fn carried_kept<L: Ledger>(
             let moved = bridges.moved_parts(alloc, before, mods, changed, steps)?;
             let parts = parts_moved(alloc, fresh, shown, hidden, changed, &moved)?;
             keep_beside(bridges, changed, strays);
+            laid_goes_law(bridges, before, mods, &paragraph, changed);
             bridges.carry_in_place(before, mods, paragraph, changed, moved);
             Ok(Target::InPlace(changed, silent, parts))
         }

@@ -224,13 +224,11 @@ impl View {
     /// modifications make of the former one, applied one after the other. It isn't fresh and shows nothing. What is
     /// kept of a unit goes with it, and what is kept of its parts too: a paragraph of the document goes by the
     /// modifications from path to path, and another unit stays the one of its number, where kind and tree are the same.
-    /// Of a paragraph inside which all modifications are, and which is found to change alone, the trace goes. What is
-    /// kept and laid out of the parts that stay in it stays, also of those that move. So does what is kept and laid out
-    /// of strays, the parts that stand in no paragraph since an edit, unless the stray's tree holds that paragraph.
-    /// Else the parts of a paragraph that is none afterwards, and strays, go with what is kept of them to the
-    /// paragraphs in which they stand then, or they are strays. What is laid out of such parts goes with them, if
-    /// something is of each. Nothing is evaluated. The steps rise by at most the paths' lengths, three for each
-    /// modification, and the nodes that are made for units. For want of memory all stays.
+    /// The trace goes of a paragraph inside which a modification is. Its parts, and strays, which are the parts that
+    /// stand in no paragraph since an edit, go with what is kept of them to the paragraphs in which they stand then, or
+    /// they are strays. What is laid out of a part goes by its path, each by itself, as what is kept there does.
+    /// Nothing is evaluated. The steps rise by at most the paths' lengths, three for each modification, and the nodes
+    /// that are made for units. For want of memory all stays.
     pub fn edited<L: Ledger>(
         &mut self,
         alloc: Global,

@@ -7,7 +7,7 @@ use Rattle.tx_part_layout.specs.declared.laid.PlacedPart.{PlacedPart}
 use Rattle.tx_unit_layout.specs.LaidUnits.{AreLaidParts}
 use Rattle.tx_unit_layout.specs.declared.shown.Shown.{Shown}
 use Rattle.tx_unit_layout.proofs.ByParts.{IsMade, out_by_parts, readable_by_parts, ats_by_parts, parts_by_parts}
-use Rattle.tx_unit_layout.proofs.ByParts.{items_anew_is, items_within}
+use Rattle.tx_unit_layout.proofs.ByParts.{of_by_parts, items_anew_is, items_within}
 use Rattle.tx_unit_layout.proofs.Renewed.{all_of_value, now_laid}
 use Rattle.tx_unit_layout.proofs.by_parts.lay_by_parts.Goals as goal
 
@@ -43,6 +43,8 @@ returns-clause-was_laid g c =
     (out_by_parts c.args.width c.args.attrs c.args.unit.now trace c.args.parts.now c.in_ok-laid.laid
     c.requires.body c.in_ok-laid.ensures.laid shows _ is c.weight_laws.ensures.lines c.weight_laws.ensures.errors)
     (ats_by_parts c.args.width c.args.attrs c.args.unit.now trace c.args.parts.now c.in_ok-laid.laid
+    c.requires.body c.in_ok-laid.ensures.laid shows _ is)
+    (of_by_parts c.args.width c.args.attrs c.args.unit.now trace c.args.parts.now c.in_ok-laid.laid
     c.requires.body c.in_ok-laid.ensures.laid shows _ is)
     (parts_by_parts c.args.width c.args.attrs c.args.unit.now trace c.args.parts.now c.in_ok-laid.laid
     c.requires.body c.in_ok-laid.ensures.laid shows _ is c.requires.distinct)

@@ -1,8 +1,9 @@
 use Rattle.std.proofs.Common.{◌∙◌, ap, sym}
 use Rattle.tx_exec.specs.Outcomes.{wide_outcome}
 use Rattle.tx_view_form.specs.Outcomes.{unit_value}
+use Rattle.tx_bridge.specs.HeldParts.{kept_parts}
 use Rattle.tx_bridge.specs.PartsKept.{has_parts}
-use Rattle.tx_unit_layout.proofs.Renewed.{laid_whole, over_whole, plain_whole}
+use Rattle.tx_unit_layout.proofs.Renewed.{laid_whole, no_parts_kept, over_whole, plain_whole}
 use Rattle.tx_unit_layout.proofs.laying.lay_unit.Goals as goal
 
 pub returns-in_default-clause-was_laid : goal.returns-in_default-clause-was_laid
@@ -11,7 +12,9 @@ returns-in_default-clause-was_laid g c =
     laid_whole c.lay_whole-in_default.result c.args.width (record { unit = c.args.unit.now; trace = o })
     c.args.parts.now c.args.attrs c.in_ok-over_value.field-0 c.args.shown.now.path c.lay_whole-in_default.new.shown
     c.requires.distinct (over_whole (has_parts c.args.unit.now) o (ap wide_outcome c.in_default.is))
-    c.requires.was_laid.laid.path
+    (no_parts_kept c.requires.fresh.0 c.args.unit.now o (kept_parts c.args.parts.now)
+    (over_whole (has_parts c.args.unit.now) o (ap wide_outcome c.in_default.is)) c.requires.fresh.1
+    c.requires.fresh.2) c.requires.was_laid.laid.path
     (c.in_ok-over_value.ensures ∙ sym (ap (λ p. unit_value (wide_outcome p)) c.in_default.is))
     c.lay_whole-in_default.ensures.shown c.lay_whole-in_default.ensures.laid c.lay_whole-in_default.ensures.no_parts
 
@@ -25,5 +28,7 @@ returns-clause-was_laid g c =
     laid_whole c.lay_whole-2.result c.args.width (record { unit = c.args.unit.now; trace = o }) c.args.parts.now
     c.args.attrs c.in-Done.trace.value c.args.shown.now.path c.lay_whole-2.new.shown c.requires.distinct
     (plain_whole (has_parts c.args.unit.now) o (sym c.has_parts.ensures ∙ c.if-has_parts.false))
-    c.requires.was_laid.laid.path (sym (ap (λ p. unit_value (wide_outcome p)) c.in-Done.is))
+    (no_parts_kept c.requires.fresh.0 c.args.unit.now o (kept_parts c.args.parts.now)
+    (plain_whole (has_parts c.args.unit.now) o (sym c.has_parts.ensures ∙ c.if-has_parts.false)) c.requires.fresh.1
+    c.requires.fresh.2) c.requires.was_laid.laid.path (sym (ap (λ p. unit_value (wide_outcome p)) c.in-Done.is))
     c.lay_whole-2.ensures.shown c.lay_whole-2.ensures.laid c.lay_whole-2.ensures.no_parts

@@ -16,7 +16,7 @@ use Rattle.tx_bridge.specs.PartsKept.{KeptParts}
 use Rattle.tx_bridge.specs.Strays.{StandAside, is_beside, kept_strays, path_at}
 use Rattle.tx_unit_layout.specs.declared.shown.Shown.{Shown}
 use Rattle.tx_view.specs.Exchanged.{IsExchanged, exchanged, exchanged_in}
-use Rattle.tx_view.specs.Laid.{ArePutBy, parts_left}
+use Rattle.tx_view.specs.Laid.{ArePutBy, LaidGoes, parts_left}
 use Rattle.tx_view.proofs.Aside.{aside_after, aside_before, kept_beside}
 use Rattle.tx_view.proofs.Blank.{tree_at}
 use Rattle.tx_view.proofs.Exchanging.{carried_at}
@@ -25,6 +25,14 @@ use Rattle.tx_view.proofs.carrying.carried_kept.Goals as goal
 
 pub moved_parts-requires-clause-applies : goal.moved_parts-requires-clause-applies
 moved_parts-requires-clause-applies g c = (
+  c.args.tree.now,
+  ap (changed_by_all c.args.mods.now)
+      (sym (tree_at c.args.buffers.now c.args.buffer c.index-buffers-buffer.result c.requires.within))
+      ∙ c.requires.changed,
+)
+
+pub laid_goes_law-requires-clause-applies : goal.laid_goes_law-requires-clause-applies
+laid_goes_law-requires-clause-applies g c = (
   c.args.tree.now,
   ap (changed_by_all c.args.mods.now)
       (sym (tree_at c.args.buffers.now c.args.buffer c.index-buffers-buffer.result c.requires.within))
@@ -182,6 +190,14 @@ returns-in_ok-parts-in-Some-clause-way g c =
           c.requires.some c.requires.within h c.requires.of_buffers c.requires.after c.requires.changed
           c.carry_in_place.ensures.carried c.carry_in_place.ensures.sources
           c.carry_in_place.ensures.numbers c.carry_in_place.ensures.units).same_trees,
+      record {
+        tree = c.in-Some.paragraph;
+        are = sym (returns-in_ok-parts-in-Some-clause-units g c) ∙ c.carry_in_place.ensures.units;
+        laid =
+            subst (λ (t : WideTree). LaidGoes c.in-Some.changed c.args.mods.now t c.in-Some.paragraph us)
+            (sym (tree_at c.args.buffers.now c.args.buffer c.index-buffers-buffer.result c.requires.within))
+            c.laid_goes_law.ensures;
+      },
     )
 
 pub returns-in_ok-carried_anew-in-None-clause-kept : goal.returns-in_ok-carried_anew-in-None-clause-kept

@@ -8,7 +8,7 @@ use Rattle.tx_bridge.specs.Others.{put_from, done_parts_of}
 use Rattle.tx_bridge.specs.Sound.{entries_of, stored_parts_in, layers_in}
 use Rattle.tx_bridge.specs.Strays.{AreStrays, AreTidy, StandAside, is_beside, strays_in, kept_strays}
 use Rattle.tx_bridge.proofs.Arrived.{parts_hold_all}
-use Rattle.tx_bridge.proofs.CarriedInPlace.{parts_in_place, strays_in_place}
+use Rattle.tx_bridge.proofs.CarriedInPlace.{many_parts, parts_in_place, strays_in_place}
 use Rattle.tx_bridge.proofs.Aside.{strays_seen, are_beside, beside_seen, tidy_beside, stay_beside, stand_beside}
 use Rattle.tx_bridge.proofs.Changing.{in_place, is_within, changed_right, layers_changed}
 use Rattle.tx_bridge.proofs.ChangedParts.{moved_hold, parts_moved, now_is}
@@ -166,12 +166,13 @@ pub returns-clause-parts : goal.returns-clause-parts
 returns-clause-parts c =
     returns-clause-within c
     ∙ parts_in_place c.args.changed c.args.mods.now c.args.before.now c.requires.applies.0 c.args.tree
-    c.args.self.now.kept c.args.self.now.parts c.args.self.now.strays c.requires.applies.1 c.requires.units
-    c.requires.changed
-    (parts_hold_all c.self.inside.bridges.items c.args.self.now.kept c.args.self.now.parts
-    (ap (λ b. b.kept) c.self.view_is) (ap (λ b. b.parts) c.self.view_is) c.self.invariant.sound)
+    (units_of c.args.self.now.kept) c.args.self.now.parts c.args.self.now.strays c.requires.applies.1
+    c.requires.units c.requires.changed
+    (many_parts c.args.self.now.kept c.args.self.now.parts (parts_hold_all c.self.inside.bridges.items
+    c.args.self.now.kept c.args.self.now.parts (ap (λ b. b.kept) c.self.view_is) (ap (λ b. b.parts) c.self.view_is)
+    c.self.invariant.sound))
     (strays_seen c.self.inside.bridges.items c.args.self.now.kept c.self.inside.strays.items c.args.self.now.strays
-    (ap (λ b. b.kept) c.self.view_is) (ap (λ b. b.strays) c.self.view_is) c.self.invariant.strays)
+    (ap (λ b. b.kept) c.self.view_is) (ap (λ b. b.strays) c.self.view_is) c.self.invariant.strays).outside
     ∙ ap (CarryParts c.args.self.now.parts
     (PartMoves 0 c.args.mods.now c.args.before.now (units_of c.args.self.now.kept) c.args.self.now.parts
     (kept_strays c.args.self.now.strays) (units_with c.args.changed c.args.tree (units_of c.args.self.now.kept))))
@@ -181,9 +182,10 @@ pub returns-clause-strays : goal.returns-clause-strays
 returns-clause-strays c =
     ap kept_strays (returns-clause-beside c)
     ∙ strays_in_place c.args.changed c.args.mods.now c.args.before.now c.requires.applies.0 c.args.tree
-    c.args.self.now.kept c.args.self.now.parts c.args.self.now.strays c.requires.applies.1 c.requires.units
-    c.requires.changed
-    (parts_hold_all c.self.inside.bridges.items c.args.self.now.kept c.args.self.now.parts
-    (ap (λ b. b.kept) c.self.view_is) (ap (λ b. b.parts) c.self.view_is) c.self.invariant.sound)
+    (units_of c.args.self.now.kept) c.args.self.now.parts c.args.self.now.strays c.requires.applies.1
+    c.requires.units c.requires.changed
+    (many_parts c.args.self.now.kept c.args.self.now.parts (parts_hold_all c.self.inside.bridges.items
+    c.args.self.now.kept c.args.self.now.parts (ap (λ b. b.kept) c.self.view_is) (ap (λ b. b.parts) c.self.view_is)
+    c.self.invariant.sound))
     (strays_seen c.self.inside.bridges.items c.args.self.now.kept c.self.inside.strays.items c.args.self.now.strays
-    (ap (λ b. b.kept) c.self.view_is) (ap (λ b. b.strays) c.self.view_is) c.self.invariant.strays)
+    (ap (λ b. b.kept) c.self.view_is) (ap (λ b. b.strays) c.self.view_is) c.self.invariant.strays).outside

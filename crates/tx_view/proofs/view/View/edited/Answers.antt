@@ -13,11 +13,12 @@ use Rattle.tx_view.specs.declared.paging.Pagination.{Pagination}
 use Rattle.tx_unit_layout.specs.LaidAts.{laid_at}
 use Rattle.tx_unit_layout.specs.declared.shown.Shown.{Shown}
 use Rattle.tx_view.specs.declared.view.View.TheInside.{Inside}
-use Rattle.tx_view.specs.Exchanged.{laid_parts_after, laid_strays_after}
 use Rattle.tx_view.specs.Laid.{laid_in, laid_parts_in}
+use Rattle.tx_view.specs.LaidMoves.{laid_moves, laid_come, carried_laid}
 use Rattle.tx_view.specs.Names.{Carry}
 use Rattle.tx_view.specs.WholeViews.{WholeView, whole_of, view_stores_of, all_of}
 use Rattle.tx_view.proofs.Blank.{many_with}
+use Rattle.tx_view.proofs.LaidCarried.{alike_as, they_go, alike_then}
 use Rattle.tx_view.proofs.Moved.{WasKept}
 use Rattle.tx_view.proofs.Staying.{carried_by, left_of}
 use Rattle.tx_view.proofs.Lasting.{left_by}
@@ -51,6 +52,16 @@ invariant_of-self-2 g c =
     c.outcome-kept.ensures.strays_hold.distinct c.in_ok-after.ensures.kept c.in_ok-after.ensures.within
     c.in_ok-after.ensures.beside c.in_ok-after.ensures.sources c.in_ok-after.ensures.target
     c.in_ok-after.ensures.way left c.move_shown-former.ensures.moved in
+    let go = they_go c.self.inside.width c.args.buffer c.args.mods.now (tree_of bs c.args.buffer) kept
+    c.self.inside.bridges.parts c.self.inside.bridges.strays olds (map laid_at c.self.inside.strays) (units after)
+    c.self.invariant.laid c.self.invariant.alike c.in_ok-after.target ss c.in_ok-after.ensures.way
+    c.outcome-kept.ensures.strays_hold.outside in
+    let sources : ss ≡ Sources c.args.buffer c.args.mods.now (tree_of bs c.args.buffer) (units_of kept) (units after) =
+    c.in_ok-after.ensures.sources in
+    let alike = alike_then c.self.inside.width c.args.buffer c.args.mods.now (tree_of bs c.args.buffer) kept
+    c.self.inside.bridges.parts c.self.inside.bridges.strays olds (map laid_at c.self.inside.strays) (units after)
+    c.self.invariant.laid c.self.invariant.alike
+    (Sources c.args.buffer c.args.mods.now (tree_of bs c.args.buffer) (units_of kept) (units after)) in
     let many = ap length c.in_ok-after.ensures.buffers ∙ many_with bs c.args.buffer c.args.tree.now
     ∙ ap length c.deref-3.ensures.value in
     stale _ (record {
@@ -71,6 +82,9 @@ invariant_of-self-2 g c =
       stand = subst (λ (cs : List Buffer). StandAside (document_of cs) c.carried.new.bridges.strays)
           (sym c.in_ok-after.ensures.buffers) c.in_ok-after.ensures.aside;
     })
+    (alike_as _ _ _ _ _ _ _ _
+    (c.in_ok-after.ensures.parts ∙ ap (CarryParts c.self.inside.bridges.parts moves) sources)
+    (on.laid_parts ∙ go.0) c.in_ok-after.ensures.strays (on.laid_strays ∙ go.1) alike)
     (left_by c.self.inside c.args.buffer c.args.mods.now (tree_of bs c.args.buffer) c.carried.new.bridges.kept
     c.move_shown-former.new.hidden.items c.in_ok-after.target ss (units after) c.move_shown-former.result
     c.replace-paged.result c.lone_of.result c.self.invariant c.in_ok-after.ensures.kept c.in_ok-after.ensures.sources
@@ -105,6 +119,10 @@ returns-clause-ok g c =
     c.outcome-kept.ensures.strays_hold.distinct c.in_ok-after.ensures.kept c.in_ok-after.ensures.within
     c.in_ok-after.ensures.beside c.in_ok-after.ensures.sources c.in_ok-after.ensures.target
     c.in_ok-after.ensures.way left c.move_shown-former.ensures.moved in
+    let go = they_go c.self.inside.width c.args.buffer c.args.mods.now (tree_of bs c.args.buffer) kept
+    c.self.inside.bridges.parts c.self.inside.bridges.strays olds (map laid_at c.self.inside.strays) (units after)
+    c.self.invariant.laid c.self.invariant.alike c.in_ok-after.target ss c.in_ok-after.ensures.way
+    c.outcome-kept.ensures.strays_hold.outside in
     let v : Inside = record {
       buffers = c.in_ok-after.after;
       width = c.self.inside.width;
@@ -125,13 +143,13 @@ returns-clause-ok g c =
     (Sources c.args.buffer c.args.mods.now (tree_of bs c.args.buffer) (units_of kept) (units after)))
     (map (had (laid_in olds)) (Sources c.args.buffer c.args.mods.now (tree_of bs c.args.buffer) (units_of kept)
     (units after)))
-    (laid_parts_after c.args.buffer c.args.mods.now (tree_of bs c.args.buffer) (units_of kept)
-    c.self.inside.bridges.parts strays (laid_parts_in olds) (map laid_at c.self.inside.strays) (units after)
+    (carried_laid (laid_parts_in olds) (laid_moves c.args.buffer c.args.mods.now (tree_of bs c.args.buffer)
+    (units_of kept) (laid_parts_in olds) (map laid_at c.self.inside.strays) (units after)) 0
     (Sources c.args.buffer c.args.mods.now (tree_of bs c.args.buffer) (units_of kept) (units after)))
     (CarryStrays (PartMoves c.args.buffer c.args.mods.now (tree_of bs c.args.buffer) (units_of kept)
     c.self.inside.bridges.parts strays (units after)) (length (units after)))
-    (laid_strays_after c.args.buffer c.args.mods.now (tree_of bs c.args.buffer) (units_of kept)
-    c.self.inside.bridges.parts strays (laid_parts_in olds) (map laid_at c.self.inside.strays) (units after)) refl
+    (laid_come (laid_moves c.args.buffer c.args.mods.now (tree_of bs c.args.buffer) (units_of kept)
+    (laid_parts_in olds) (map laid_at c.self.inside.strays) (units after)) (length (units after))) refl
     c.clear.ensures.items
     (ap (λ (p : Pagination). p.pages.items) c.replace-paged.ensures.after ∙ c.in_ok-nothing.ensures.pages)
     c.in_ok-after.ensures.buffers
@@ -139,8 +157,8 @@ returns-clause-ok g c =
     (c.in_ok-after.ensures.parts
     ∙ ap (CarryParts c.self.inside.bridges.parts (PartMoves c.args.buffer c.args.mods.now
     (tree_of bs c.args.buffer) (units_of kept) c.self.inside.bridges.parts strays (units after)))
-    c.in_ok-after.ensures.sources) on.attributes on.laid_parts
-    c.in_ok-after.ensures.strays on.laid_strays in
+    c.in_ok-after.ensures.sources) on.attributes (on.laid_parts ∙ go.0)
+    c.in_ok-after.ensures.strays (on.laid_strays ∙ go.1) in
     base
     ∙ ap (λ (cs : List Buffer). record (whole_of c.self.inside) {
       buffers = with_tree cs c.args.buffer c.args.tree.now;
