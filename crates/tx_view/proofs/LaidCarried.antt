@@ -47,16 +47,16 @@ alike_as pss qss lss mss ks js ls ns p l k n h =
     (subst (λ (is : KeptParts). AreLaidAlike pss lss is ns) (sym k)
     (subst (λ (is : List LaidAt). AreLaidAlike pss lss ks is) (sym n) h)))
 
+abbrev AreNothing : List (List LaidAt) → Type 0
+AreNothing mss = AllByRecursion (λ ms. ms ≡ []) mss
+
 -- nothing is laid out of units that are new
 pub none_laid : (us : List DocUnit) (pss : List KeptParts) (lss : List (List LaidAt)) (ks : KeptParts)
     (ls : List LaidAt) → lss ≡ map (λ u. []) us → ls ≡ [] → AreLaidAlike pss lss ks ls
-none_laid us pss lss ks ls units strays =
-    inr (record {
-      units = subst (AllByRecursion (λ ms. ms ≡ [])) (sym units) (all_none us);
-      strays = strays;
-    })
+none_laid us pss lss ks ls at_units at_strays =
+    inr (record { units = subst AreNothing (sym at_units) (all_none us); strays = at_strays })
   where
-    all_none : (vs : List DocUnit) → AllByRecursion {A = List LaidAt} (λ ms. ms ≡ []) (map (λ u. []) vs)
+    all_none : (vs : List DocUnit) → AreNothing (map (λ u. []) vs)
     all_none [] = tt
     all_none (v ∷ vs) = (refl, all_none vs)
 

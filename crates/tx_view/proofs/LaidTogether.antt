@@ -62,19 +62,18 @@ module _ (ms : List Mod) (t : WideTree) (vs : List DocUnit) (all : List (List La
       ap (λ q. map (goes all) (cons_option (option_map (λ place. move_to i k s (unit_above 0 vs place))
       (carried_by_all ms t (p ++ q))) (moves_below ms t vs i p (k + 1) ks))) both.0
       ∙ by (carried_by_all ms t (p ++ l.path))
+      (below_go i whole p (k + 1) ks ls list both.1 (rest_behind_one whole k l ls rest))
     where
       both : (s.path ≡ l.path) × (part_paths ks ≡ at_paths ls)
       both = heads s.path l.path (part_paths ks) (at_paths ls) e
 
-      later : GoTogether all (moves_below ms t vs i p (k + 1) ks) (laid_moves_below ms t vs p ls)
-      later = below_go i whole p (k + 1) ks ls list both.1 (rest_behind_one whole k l ls rest)
-
       by : (o : Option (List ℕ))
+          → GoTogether all (moves_below ms t vs i p (k + 1) ks) (laid_moves_below ms t vs p ls)
           → GoTogether all (cons_option (option_map (λ place. move_to i k s (unit_above 0 vs place)) o)
           (moves_below ms t vs i p (k + 1) ks))
           (cons_option (option_map (λ place. laid_move l (unit_above 0 vs place)) o) (laid_moves_below ms t vs p ls))
-      by None = later
-      by (Some place) =
+      by None later = later
+      by (Some place) later =
           ap (λ y. y ∷ map (goes all) (moves_below ms t vs i p (k + 1) ks))
           (one_goes all whole i k s l (unit_above 0 vs place) list (rest 0 k (omega arith)))
           ∙ ap (λ ys. Some (laid_move l (unit_above 0 vs place)) ∷ ys) later
@@ -122,19 +121,17 @@ module _ (ms : List Mod) (t : WideTree) (vs : List DocUnit) (all : List (List La
       ap (λ q. map (goes all) (cons_option
       (if is_outside vs q then Some (move_to i k s (length vs, q)) else None) (moves_aside vs i (k + 1) ks))) both.0
       ∙ by (is_outside vs l.path)
+      (aside_go i whole (k + 1) ks ls list both.1 (rest_behind_one whole k l ls rest))
     where
       both : (s.path ≡ l.path) × (part_paths ks ≡ at_paths ls)
       both = heads s.path l.path (part_paths ks) (at_paths ls) e
 
-      later : GoTogether all (moves_aside vs i (k + 1) ks) (laid_moves_aside vs ls)
-      later = aside_go i whole (k + 1) ks ls list both.1 (rest_behind_one whole k l ls rest)
-
-      by : (b : Bool)
+      by : (b : Bool) → GoTogether all (moves_aside vs i (k + 1) ks) (laid_moves_aside vs ls)
           → GoTogether all (cons_option (if b then Some (move_to i k s (length vs, l.path)) else None)
           (moves_aside vs i (k + 1) ks))
           (cons_option (if b then Some (laid_move l (length vs, l.path)) else None) (laid_moves_aside vs ls))
-      by false = later
-      by true =
+      by false later = later
+      by true later =
           ap (λ y. y ∷ map (goes all) (moves_aside vs i (k + 1) ks))
           (one_goes all whole i k s l (length vs, l.path) list (rest 0 k (omega arith)))
           ∙ ap (λ ys. Some (laid_move l (length vs, l.path)) ∷ ys) later
