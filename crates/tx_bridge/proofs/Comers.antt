@@ -26,11 +26,11 @@ use Rattle.tx_bridge.specs.Courses.{arrived_parts}
 use Rattle.tx_bridge.specs.HeldParts.{HoldsPart, kept_part, kept_parts}
 use Rattle.tx_bridge.specs.PartMoves.{Move, NoneAbove, is_vacant, rest_in, unit_above, move_to, move_from, move_of}
 use Rattle.tx_bridge.specs.PartMoves.{moves_below, moves_from, part_moves, seen_move, kept_in_unit, arrived}
-use Rattle.tx_bridge.specs.PartsKept.{KeptParts}
+use Rattle.tx_bridge.specs.PartsKept.{KeptParts, part_paths}
 use Rattle.tx_bridge.proofs.Above.{IsIn, rest_in_is, in_rest, found_at, far_at}
 use Rattle.tx_bridge.proofs.Inside.{fronts_meet}
 use Rattle.tx_bridge.proofs.Injective.{carried_once}
-use Rattle.tx_bridge.proofs.WithinUnit.{Holds, part_paths, hold_done, kept_paths, clash}
+use Rattle.tx_bridge.proofs.WithinUnit.{Holds, hold_done, kept_paths, clash}
 
 -- ---- parts with their paths in the document
 

@@ -27,7 +27,7 @@ use Rattle.tx_bridge.specs.Names.{CarryParts, CarryStrays, PartMoves, Sources}
 use Rattle.tx_bridge.specs.PartMoves.{Move, NoneAbove, is_vacant, stands_at, rest_in, unit_above, moves_below}
 use Rattle.tx_bridge.specs.PartMoves.{moves_from, part_moves, arrived, parts_now}
 use Rattle.tx_bridge.specs.PartMoves.{all_parts_now}
-use Rattle.tx_bridge.specs.PartsKept.{KeptParts, kept_at}
+use Rattle.tx_bridge.specs.PartsKept.{KeptParts, kept_at, part_paths}
 use Rattle.tx_bridge.specs.Strays.{Stray, HoldsStray, AreStrays, StandAside, kept_strays}
 use Rattle.tx_bridge.specs.UnitLists.{AreUnits}
 use Rattle.tx_bridge.proofs.Above.{IsIn, IsFound, rest_in_is, in_rest, one_above, none_above, above_is, found_at}
@@ -37,7 +37,6 @@ use Rattle.tx_bridge.proofs.CarriedInPlace.{many_parts}
 use Rattle.tx_bridge.proofs.Injective.{carried_once}
 use Rattle.tx_bridge.proofs.Single.{ByPath, ByNumber, source_says}
 use Rattle.tx_bridge.proofs.Slotting.{some_once}
-use Rattle.tx_bridge.proofs.WithinUnit.{part_paths}
 use Rattle.tx_bridge.proofs.ReadByPath.{AnyOf, any_left, any_right, any_of_both, all_onto, KeepsTrace, IsTraced}
 use Rattle.tx_bridge.proofs.ReadByPath.{IsSomeTrace, found_in, told_by, some_kept, leads_there, all_traced}
 use Rattle.tx_bridge.proofs.ReadByPath.{ReadIn, ReadAside, read, read_in, read_aside}
@@ -546,7 +545,7 @@ parts_traced (d ∷ es) (qs ∷ pss) h zero ps f =
     (all_traced d.unit.tagged.tree qs h.0.hold)
 parts_traced (d ∷ es) (qs ∷ pss) h (suc k) ps f = parts_traced es pss h.1 k ps f
 
-strays_hold : (t : WideTree) (ss : List Stray) → AllByRecursion HoldsStray ss → StandAside t ss
+pub strays_hold : (t : WideTree) (ss : List Stray) → AllByRecursion HoldsStray ss → StandAside t ss
     → AllByRecursion (StoredHolds t) (kept_strays ss)
 strays_hold t [] h at = tt
 strays_hold t (s ∷ ss) h at = (

@@ -22,11 +22,11 @@ use Rattle.tx_units.specs.declared.kinds.Unit.{Unit as DocUnit}
 use Rattle.tx_bridge.specs.CarryingParts.{part_at, and_part, carried_below, parts_behind}
 use Rattle.tx_bridge.specs.MovedParts.{AreMovedParts, moves_of, places_by}
 use Rattle.tx_bridge.specs.HeldParts.{HoldsPart, kept_part, kept_parts}
-use Rattle.tx_bridge.specs.PartsKept.{KeptParts}
+use Rattle.tx_bridge.specs.PartsKept.{KeptParts, part_paths}
 use Rattle.tx_bridge.specs.Keeping.{all_keep_place}
 use Rattle.tx_bridge.specs.Others.{others_from, path_of_part, kept_there, kept_others, stored_of, and_some, put_from}
 use Rattle.tx_bridge.proofs.Inside.{rest_own}
-use Rattle.tx_bridge.proofs.WithinUnit.{at_path, part_paths}
+use Rattle.tx_bridge.proofs.WithinUnit.{at_path}
 use Rattle.tx_bridge.proofs.KeptPlaces.{places_stay}
 use Rattle.tx_bridge.proofs.Putting.{differs, IsAhead, put_past, put_here}
 

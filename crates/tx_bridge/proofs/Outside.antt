@@ -14,14 +14,14 @@ use Rattle.tx_walk.specs.Walked.{IsTidy}
 use Rattle.tx_bridge.specs.Courses.{HasTree, strays_left}
 use Rattle.tx_bridge.specs.HeldParts.{kept_part}
 use Rattle.tx_bridge.specs.PartMoves.{NoneAbove, is_outside, move_to, moves_aside, seen_move, kept_in_unit, arrived}
-use Rattle.tx_bridge.specs.PartsKept.{KeptParts}
+use Rattle.tx_bridge.specs.PartsKept.{KeptParts, part_paths}
 use Rattle.tx_bridge.specs.Strays.{Stray, kept_strays, HoldsStray, AreStrays, StandAside, strays_in, AreTidy}
 use Rattle.tx_bridge.specs.declared.course.PartMove.{PartMove}
 use Rattle.tx_bridge.specs.declared.strays.Stray.{Stray as DoneStray}
 use Rattle.tx_bridge.proofs.Above.{outside_none}
 use Rattle.tx_bridge.proofs.Aside.{all_passing, distinct_filtered}
 use Rattle.tx_bridge.proofs.Comers.{AllOutside, HoldAside}
-use Rattle.tx_bridge.proofs.WithinUnit.{Holds, SupportsIfDone, part_paths}
+use Rattle.tx_bridge.proofs.WithinUnit.{Holds, SupportsIfDone}
 
 -- ---- of each
 

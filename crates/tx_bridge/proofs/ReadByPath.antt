@@ -23,11 +23,10 @@ use Rattle.tx_bridge.specs.HeldParts.{StoredHolds}
 use Rattle.tx_bridge.specs.KeptInDocument.{kept_in_document}
 use Rattle.tx_bridge.specs.PartMoves.{Move, NoneAbove, is_vacant, rest_in, unit_above, move_to, moves_below}
 use Rattle.tx_bridge.specs.PartMoves.{unit_moves, moves_from, arrived}
-use Rattle.tx_bridge.specs.PartsKept.{KeptParts, kept_at}
+use Rattle.tx_bridge.specs.PartsKept.{KeptParts, kept_at, part_paths}
 use Rattle.tx_bridge.proofs.Above.{IsIn, rest_in_is}
 use Rattle.tx_bridge.proofs.CarriedInPlace.{apart_one}
 use Rattle.tx_bridge.proofs.Inside.{fronts_meet}
-use Rattle.tx_bridge.proofs.WithinUnit.{part_paths}
 
 -- ---- one of a list
 

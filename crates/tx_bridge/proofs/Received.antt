@@ -26,7 +26,7 @@ use Rattle.tx_bridge.specs.Entries.{Kept, units_of}
 use Rattle.tx_bridge.specs.HeldParts.{kept_parts}
 use Rattle.tx_bridge.specs.Names.{PartMoves, CarryParts, CarryLayers, CarryStrays, IsCourse}
 use Rattle.tx_bridge.specs.PartMoves.{Move, AreMoves, part_moves, seen_move, arrived, parts_now, all_parts_now}
-use Rattle.tx_bridge.specs.PartsKept.{KeptParts}
+use Rattle.tx_bridge.specs.PartsKept.{KeptParts, part_paths}
 use Rattle.tx_bridge.specs.Slots.{HaveOwnPaths, AreMoved, AllPlaced, bodies_of, fresh_bridge, given_all, paths_in}
 use Rattle.tx_bridge.specs.Sound.{IsSoundBridge, AreRight, entries_of, stored_parts_in, layers_in, sources_in}
 use Rattle.tx_bridge.specs.Strays.{Stray, kept_strays, HoldsStray, AreStrays, StandAside, strays_in, AreTidy}
@@ -42,7 +42,7 @@ use Rattle.tx_bridge.proofs.Above.{one_above, in_rest}
 use Rattle.tx_bridge.proofs.PartsSame.{no_parts}
 use Rattle.tx_bridge.proofs.Taking.{AreBare, fresh_bare, bare_bodies, got, all_got, given_got, got_found, number_given}
 use Rattle.tx_bridge.proofs.Taking.{source_in, parts_in_one, places_same, places_many}
-use Rattle.tx_bridge.proofs.WithinUnit.{hold_kept, kept_paths, part_paths}
+use Rattle.tx_bridge.proofs.WithinUnit.{hold_kept, kept_paths}
 
 -- ---- the new units
 

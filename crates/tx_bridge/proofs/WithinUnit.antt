@@ -23,7 +23,7 @@ use Rattle.tx_walk.specs.declared.part.Part.{Part as DonePart}
 use Rattle.tx_walk.specs.Walked.{IsTidy, paths_of}
 use Rattle.tx_bridge.specs.CarryingParts.{part_at, and_part, parts_behind}
 use Rattle.tx_bridge.specs.HeldParts.{HoldsPart, kept_parts}
-use Rattle.tx_bridge.specs.PartsKept.{KeptParts}
+use Rattle.tx_bridge.specs.PartsKept.{KeptParts, part_paths}
 use Rattle.tx_bridge.proofs.Inside.{rest_is, rest_own, no_rest, begins_is}
 use Rattle.tx_bridge.proofs.Injective.{carried_once}
 
@@ -37,9 +37,6 @@ pub record Holds (t : WideTree) (k : Stored) : Type 0 where
   pub there : WideTree
   pub leads : subtree t k.path ≡ Some there
   pub supports : SupportsIfDone there k.trace
-
-abbrev pub part_paths : KeptParts → List (List ℕ)
-part_paths ks = map (λ k. k.path) ks
 
 pub hold_kept : (t : WideTree) (ps : List DonePart) → AllByRecursion (HoldsPart t) ps
     → AllByRecursion (Holds t) (kept_parts ps)

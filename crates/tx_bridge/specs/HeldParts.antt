@@ -16,7 +16,7 @@ use Rattle.tx_walk.specs.declared.part.Part.{Part as DonePart}
 use Rattle.tx_walk.specs.Walked.{IsTidy, paths_of}
 use Rattle.tx_units.specs.declared.kinds.Unit.{Unit as DocUnit}
 use Rattle.tx_bridge.specs.Entries.{Kept}
-use Rattle.tx_bridge.specs.PartsKept.{KeptParts, has_parts}
+use Rattle.tx_bridge.specs.PartsKept.{KeptParts, has_parts, part_paths}
 
 abbrev pub kept_part : DonePart → Stored
 kept_part p = record { path = p.path; trace = Some (wide_trace p.trace) }
@@ -78,7 +78,7 @@ pub record StoredHolds (t : WideTree) (s : Stored) : Type 0 where
 -- so it is of each part of a unit with this tree, and no two have one path
 pub record StoredAllHold (t : WideTree) (ks : KeptParts) : Type 0 where
   pub hold : AllByRecursion (StoredHolds t) ks
-  pub distinct : IsDistinct bytes_eq (map (λ k. k.path) ks)
+  pub distinct : IsDistinct bytes_eq (part_paths ks)
 
 -- so it is of the parts of each unit
 abbrev pub AllPartsHold : Kept → List KeptParts → Type 0

@@ -8,7 +8,7 @@ use Rattle.tx_units.specs.declared.kinds.Unit.{Unit as DocUnit}
 use Rattle.tx_walk.specs.declared.part.Part.{Part as DonePart}
 use Rattle.tx_walk.specs.Walked.{IsTidy}
 use Rattle.tx_bridge.specs.CarryingParts.{carried_below, parts_within}
-use Rattle.tx_bridge.specs.PartsKept.{KeptParts}
+use Rattle.tx_bridge.specs.PartsKept.{KeptParts, part_paths}
 use Rattle.tx_bridge.specs.Others.{stored_of, put_from}
 
 -- where they stand afterwards, by their numbers; one that doesn't stay in the unit stands nowhere
@@ -28,5 +28,5 @@ pub record AreMovedParts (ms : List Mod) (t : WideTree) (u : DocUnit) (ks : Kept
     : Type 0 where
   pub kept : put_from 0 (stored_of os) ks ≡ parts_within ms t u ks
   pub places : (p : List ℕ) → u.path ≡ Some p
-      → places_by 0 (moves_of os) (map (λ k. k.path) ks) ≡ map (carried_below ms t p) (map (λ k. k.path) ks)
+      → places_by 0 (moves_of os) (part_paths ks) ≡ map (carried_below ms t p) (part_paths ks)
   pub tidy : All (λ o. IfSome o.1 IsTidy) os

@@ -17,6 +17,9 @@ use Rattle.tx_bridge.specs.Entries.{Kept, outcome_of}
 abbrev pub KeptParts : Type 0
 KeptParts = List Stored
 
+abbrev pub part_paths : KeptParts → List (List ℕ)
+part_paths ks = map (λ k. k.path) ks
+
 -- what is kept at a path: the first tells
 abbrev pub kept_at : KeptParts → Store
 kept_at [] path = None

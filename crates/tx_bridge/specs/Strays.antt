@@ -15,7 +15,7 @@ use Rattle.tx_bridge.specs.declared.strays.Stray.{Stray as DoneStray}
 use Rattle.tx_bridge.specs.HeldParts.{kept_part}
 use Rattle.tx_bridge.specs.InPlace.{begins_path}
 use Rattle.tx_bridge.specs.PartMoves.{NoneAbove}
-use Rattle.tx_bridge.specs.PartsKept.{KeptParts}
+use Rattle.tx_bridge.specs.PartsKept.{KeptParts, part_paths}
 
 -- what is kept of a part, with its path in the document, and the tree that stands there
 pub record Stray : Type 0 where
@@ -40,7 +40,7 @@ AreOutside us ss = AllByRecursion (λ s. NoneAbove s.kept.path us) ss
 -- each trace supports its tree, no two have one path, and none stands in a unit
 pub record AreStrays (us : List DocUnit) (ss : List Stray) : Type 0 where
   pub hold : AllByRecursion HoldsStray ss
-  pub distinct : IsDistinct bytes_eq (map (λ k. k.path) (kept_strays ss))
+  pub distinct : IsDistinct bytes_eq (part_paths (kept_strays ss))
   pub outside : AreOutside us ss
 
 -- the trees stand in the document

@@ -19,8 +19,8 @@ ghost use Rattle.tx_bridge.specs.UnitLists.{AreUnits};
 use tx_mod::{carried_law, carried_list_law};
 
 /// A law: where an edit of the document changes the tree of one paragraph alone, what `carry_in_place` says of parts
-/// and of strays is what `carry` says. Nothing is asked of the new tree, nor of the traces: so it holds of whatever
-/// goes with parts and strays by their paths.
+/// and of strays is what `carry` says. Nothing is asked of the new tree, of the traces, or of the strays' trees: only
+/// that no stray is in a unit, and that there is a list of parts for each unit.
 pub fn in_place_law()
     ensures parts { (i : ℕ) (ms : List Change) (t u tree : WideTree) (us : List DocUnit) (parts : List KeptParts)
         (strays : List Stray) → changed_by_all ms t ≡ Some u → AreUnits us → IsOneChanged i 0 ms us

@@ -160,7 +160,7 @@ module _ (width : ℕ) (e : Entry) (ds : List DonePart) (a : Attrs) (x : Shown)
           (same_attrs a b x.laid laid is) out;
       by_parts = λ b is.
           by_parts ∙ ap (λ c. laid_ats c e (kept_parts ds)) (same_attrs a b x.laid laid is);
-      each_part = λ b is. of;
+      of_kept = λ b is. of;
       same = λ b is. refl;
       parts = parts;
     };

@@ -61,7 +61,7 @@ pub record IsLaid (width : ℕ) (e : Entry) (ks held : KeptParts) (x : Shown) : 
   pub path : x.path ≡ e.unit.path
   pub laid : (a : Attrs) → x.laid ≡ Some a → IsLaidOut width a (unit_value e.trace) e.unit.path x
   pub by_parts : (a : Attrs) → x.laid ≡ Some a → map laid_at x.parts ≡ laid_ats a e ks
-  pub each_part : (a : Attrs) → x.laid ≡ Some a → AreOf ks x.parts
+  pub of_kept : (a : Attrs) → x.laid ≡ Some a → AreOf ks x.parts
   pub same : (a : Attrs) → x.laid ≡ Some a → ks ≡ held
   pub parts : AreLaidParts width held x.parts
 

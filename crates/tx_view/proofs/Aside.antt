@@ -15,6 +15,7 @@ use Rattle.tx_doc.specs.declared.buffer.Buffer.{Buffer}
 use Rattle.tx_units.specs.declared.kinds.Unit.{Unit as DocUnit}
 use Rattle.tx_part_layout.specs.declared.laid.PlacedPart.{PlacedPart}
 use Rattle.tx_part_layout.specs.LaidParts.{IsLaidPart}
+use Rattle.tx_bridge.proofs.KeptAlong.{strays_hold}
 use Rattle.tx_bridge.specs.Entries.{Entry, Kept, units_of}
 use Rattle.tx_bridge.specs.InPlace.{begins_path}
 use Rattle.tx_bridge.specs.HeldParts.{StoredHolds, StoredAllHold}
@@ -128,24 +129,10 @@ placed_there i kept u path ps qs there is left = left ∙ sym (placed_by i kept 
 
 -- ---- what is kept of them
 
-hold_aside : (t : WideTree) (ss : List Stray) → AllByRecursion HoldsStray ss → StandAside t ss
-    → AllByRecursion (StoredHolds t) (kept_strays ss)
-hold_aside t [] hold stand = tt
-hold_aside t (s ∷ ss) hold stand = (
-  record {
-    trace = hold.0.trace;
-    is = hold.0.is;
-    there = s.tree;
-    leads = stand.0;
-    supports = hold.0.supports;
-  },
-  hold_aside t ss hold.1 stand.1,
-)
-
 pub all_hold_aside : (t : WideTree) (us : List DocUnit) (ss : List Stray) → AreStrays us ss → StandAside t ss
     → StoredAllHold t (kept_strays ss)
 all_hold_aside t us ss are stand =
-    record { hold = hold_aside t ss are.hold stand; distinct = are.distinct }
+    record { hold = strays_hold t ss are.hold stand; distinct = are.distinct }
 
 -- ---- where they stand behind an edit
 

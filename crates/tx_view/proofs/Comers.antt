@@ -35,12 +35,13 @@ use Rattle.tx_unit_layout.specs.LaidUnits.{IsLaidOfKept, AreOf, AreLaidParts}
 use Rattle.tx_unit_layout.specs.Moving.{WidePart, wide_part, put_at}
 use Rattle.tx_unit_layout.specs.Views.{IsReadable}
 use Rattle.tx_unit_layout.specs.declared.shown.Shown.{Shown}
-use Rattle.tx_view.specs.Exchanged.{laid_to, laid_moved, all_laid, laid_in_unit, laid_arrived, laid_with}
+use Rattle.tx_view.specs.Exchanged.{laid_to}
 use Rattle.tx_view.specs.Laid.{PlacedLists, AreLaid, HasShortPlaces, laid_parts_in, placed_in, wide_moved, all_wide}
 use Rattle.tx_view.specs.Laid.{going, wide_arrived}
 use Rattle.tx_view.proofs.Numbers.{AreFrom, from_first, at_seam}
 use Rattle.tx_view.proofs.OfParts.{AreDistinct, no_parts, none_wide, paths_laid, at_wide}
 use Rattle.tx_view.proofs.ShortParts.{each_part_short}
+use Rattle.tx_view.proofs.LaidByNumber.{moved_by_number, all_by_number, in_unit_by_number, arrived_by_number, laid_with}
 
 -- ---- what is told of a move
 
@@ -408,7 +409,7 @@ ats_with [] ps = refl
 ats_with (x ∷ xs) ps = ap (λ lss. map laid_at x.parts ∷ lss) (ats_with xs ps)
 
 at_by : (old : PlacedLists) (m : Move)
-    → laid_moved (ats_of old) m ≡ option_map at_wide (wide_moved old m)
+    → moved_by_number (ats_of old) m ≡ option_map at_wide (wide_moved old m)
 at_by old m =
     ap (λ o. option_map (laid_to m.kept.path) (option_and_then (λ (ls : List LaidAt). slice_get ls m.number) o))
     (slice_get-map (λ (ps : List PlacedPart). map laid_at ps) old m.from)
@@ -432,20 +433,20 @@ some_by : (o : Option WidePart) → is_some (option_map at_wide o) ≡ is_some o
 some_by None = refl
 some_by (Some w) = refl
 
-all_by : (old : PlacedLists) (moves : List Move) → all_laid (ats_of old) moves ≡ all_wide old moves
+all_by : (old : PlacedLists) (moves : List Move) → all_by_number (ats_of old) moves ≡ all_wide old moves
 all_by old [] = refl
 all_by old (m ∷ moves) =
-    ap (λ b. b && all_laid (ats_of old) moves) (ap is_some (at_by old m) ∙ some_by (wide_moved old m))
+    ap (λ b. b && all_by_number (ats_of old) moves) (ap is_some (at_by old m) ∙ some_by (wide_moved old m))
     ∙ ap (λ b. is_some (wide_moved old m) && b) (all_by old moves)
 
 places_by : (old : PlacedLists) (j : ℕ) (moves : List Move)
-    → map at_wide (wide_arrived old moves j) ≡ filter_map (laid_in_unit (ats_of old) j) moves
+    → map at_wide (wide_arrived old moves j) ≡ filter_map (in_unit_by_number (ats_of old) j) moves
 places_by old j [] = refl
 places_by old j (m ∷ moves) =
     by (m.to == j) (wide_moved old m)
     ∙ ap (λ o. cons_option (if m.to == j then o else None) (map at_wide (wide_arrived old moves j)))
     (sym (at_by old m))
-    ∙ ap (λ ls. cons_option (laid_in_unit (ats_of old) j m) ls) (places_by old j moves)
+    ∙ ap (λ ls. cons_option (in_unit_by_number (ats_of old) j m) ls) (places_by old j moves)
   where
     by : (b : Bool) (o : Option WidePart)
         → map at_wide (cons_option (if b then o else None) (wide_arrived old moves j))
@@ -455,13 +456,13 @@ places_by old j (m ∷ moves) =
     by true (Some w) = refl
 
 pub arrived_ats : (old : PlacedLists) (j : ℕ) (moves : List Move)
-    → map at_wide (wide_arrived old (going old moves) j) ≡ laid_arrived (ats_of old) moves j
+    → map at_wide (wide_arrived old (going old moves) j) ≡ arrived_by_number (ats_of old) moves j
 arrived_ats old j moves =
     by (all_wide old moves)
-    ∙ ap (λ b. if b then filter_map (laid_in_unit (ats_of old) j) moves else []) (sym (all_by old moves))
+    ∙ ap (λ b. if b then filter_map (in_unit_by_number (ats_of old) j) moves else []) (sym (all_by old moves))
   where
     by : (b : Bool) → map at_wide (wide_arrived old (if b then moves else []) j)
-        ≡ (if b then filter_map (laid_in_unit (ats_of old) j) moves else [])
+        ≡ (if b then filter_map (in_unit_by_number (ats_of old) j) moves else [])
     by true = places_by old j moves
     by false = refl
 

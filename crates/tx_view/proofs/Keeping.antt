@@ -80,7 +80,7 @@ one_were width true d e ks ls fs x h unit same still stays = record {
     path = h.path ∙ ap (λ u. u.path) (sym unit);
     laid = λ a none. cc;
     by_parts = λ a none. cc;
-    each_part = λ a none. cc;
+    of_kept = λ a none. cc;
     same = λ a none. cc;
     parts = h.parts;
   };
@@ -170,7 +170,7 @@ one_dropped width d e ks held ls x h unit = record {
   path = h.path ∙ ap (λ u. u.path) (sym unit);
   laid = λ a none. cc;
   by_parts = λ a none. cc;
-  each_part = λ a none. cc;
+  of_kept = λ a none. cc;
   same = λ a none. refl;
   parts = nothing_of width ls;
 }
@@ -214,7 +214,7 @@ one_left width e ks held [] x h none = record {
   path = h.path;
   laid = h.laid;
   by_parts = h.by_parts;
-  each_part = h.each_part;
+  of_kept = h.of_kept;
   same = λ a is. refl;
   parts = subst (λ (ps : List PlacedPart). AreLaidParts width ks ps) (sym none) (nothing_of width ks);
 }

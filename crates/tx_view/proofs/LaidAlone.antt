@@ -38,7 +38,7 @@ use Rattle.tx_unit_layout.specs.LaidAts.{LaidAt}
 use Rattle.tx_view.specs.Exchanged.{laid_behind, left_at, left_but}
 use Rattle.tx_view.specs.Laid.{AreLaidOutside, LaidGoes}
 use Rattle.tx_view.specs.LaidMoves.{LaidMove, laid_move, laid_moves_below, laid_unit_moves, laid_moves_from}
-use Rattle.tx_view.specs.LaidMoves.{laid_moves, laid_come, laid_of_new, carried_laid}
+use Rattle.tx_view.specs.LaidMoves.{laid_moves, laid_arrived, laid_now, all_laid_now}
 
 -- ---- traces that tell attributes apart
 
@@ -190,7 +190,7 @@ module _ (a : Attrs) (ms : List Mod) (t : WideTree) where
 
     -- what comes to a unit
     come_as : (j : ℕ) (moves : List Move) (xs : List LaidMove) → map seen moves ≡ map seen_as xs
-        → arrived moves j ≡ as_parts a (laid_come xs j)
+        → arrived moves j ≡ as_parts a (laid_arrived xs j)
     come_as j [] [] e = refl
     come_as j [] (x ∷ xs) e = cc
     come_as j (m ∷ moves) [] e = cc
@@ -199,15 +199,15 @@ module _ (a : Attrs) (ms : List Mod) (t : WideTree) where
         ap (λ (s : ℕ × Stored). cons_option (if s.0 == j then Some s.1 else None) (arrived moves j)) both.0
         ∙ by (x.to == j) (come_as j moves xs both.1)
       where
-        by : (b : Bool) → arrived moves j ≡ as_parts a (laid_come xs j)
+        by : (b : Bool) → arrived moves j ≡ as_parts a (laid_arrived xs j)
             → cons_option (if b then Some (as_part a x.laid) else None) (arrived moves j)
-            ≡ as_parts a (cons_option (if b then Some x.laid else None) (laid_come xs j))
+            ≡ as_parts a (cons_option (if b then Some x.laid else None) (laid_arrived xs j))
         by true later = ap (λ ks. as_part a x.laid ∷ ks) later
         by false later = later
 
     now_as : (lss : List (List LaidAt)) (moves : List Move) (xs : List LaidMove) → map seen moves ≡ map seen_as xs
         → (j : ℕ) (ss : List (Option ℕ))
-        → all_parts_now (map (as_parts a) lss) moves j ss ≡ map (as_parts a) (carried_laid lss xs j ss)
+        → all_parts_now (map (as_parts a) lss) moves j ss ≡ map (as_parts a) (all_laid_now lss xs j ss)
     now_as lss moves xs e j [] = refl
     now_as lss moves xs e j (s ∷ ss) =
         ap₂ (λ ks kss. ks ∷ kss) (by s) (now_as lss moves xs e (j + 1) ss)
@@ -217,7 +217,7 @@ module _ (a : Attrs) (ms : List Mod) (t : WideTree) where
         by_list None = refl
         by_list (Some ls) = refl
 
-        by : (o : Option ℕ) → parts_now (map (as_parts a) lss) moves j o ≡ as_parts a (laid_of_new lss xs j o)
+        by : (o : Option ℕ) → parts_now (map (as_parts a) lss) moves j o ≡ as_parts a (laid_now lss xs j o)
         by None = come_as j moves xs e
         by (Some i) =
             ap (λ o. option_map_or (λ ks. ks) o []) (slice_get-map (as_parts a) lss i) ∙ by_list (slice_get lss i)
@@ -293,10 +293,10 @@ module _ (i : ℕ) (ms : List Mod) (t u x : WideTree) (us : List DocUnit) (lss :
   unfolding PartMoves
   told_as a = ap (λ ks. part_moves 0 ms t us (map (as_parts a) lss) ks vs) (kept_as a ls)
 
-  left_moves : PartsInPlace → left_but ms t i us lss ≡ carried_laid lss xs 0 (Sources 0 ms t us vs)
+  left_moves : PartsInPlace → left_but ms t i us lss ≡ all_laid_now lss xs 0 (Sources 0 ms t us vs)
   unfolding CarryWithin CarryParts
   left_moves law =
-      lists_apart (left_but ms t i us lss) (carried_laid lss xs 0 (Sources 0 ms t us vs))
+      lists_apart (left_but ms t i us lss) (all_laid_now lss xs 0 (Sources 0 ms t us vs))
       (λ a. left_as a ms t i us lss
       ∙ law i ms t u x us (map (as_parts a) lss) (as_strays a ls) made are one (as_many a lss ∙ many)
       (outside_as a us ls out)
@@ -304,10 +304,10 @@ module _ (i : ℕ) (ms : List Mod) (t u x : WideTree) (us : List DocUnit) (lss :
       ∙ now_as a ms t vs lss (part_moves 0 ms t us (map (as_parts a) lss) (as_parts a ls) vs) xs
       (all_as a ms t vs us lss ls) 0 (Sources 0 ms t us vs))
 
-  beside_moves : StraysInPlace → filter (λ l. is_beside (path_at i us) l.path) ls ≡ laid_come xs (length vs)
+  beside_moves : StraysInPlace → filter (λ l. is_beside (path_at i us) l.path) ls ≡ laid_arrived xs (length vs)
   unfolding StraysBeside CarryStrays
   beside_moves law =
-      list_apart (filter (λ l. is_beside (path_at i us) l.path) ls) (laid_come xs (length vs))
+      list_apart (filter (λ l. is_beside (path_at i us) l.path) ls) (laid_arrived xs (length vs))
       (λ a. beside_as a i us ls
       ∙ law i ms t u x us (map (as_parts a) lss) (as_strays a ls) made are one (as_many a lss ∙ many)
       (outside_as a us ls out)

@@ -14,22 +14,23 @@ use Rattle.tx_parts.specs.Parts.{Stored}
 use Rattle.tx_bridge.specs.Carrying.{through}
 use Rattle.tx_bridge.specs.PartMoves.{Move, is_vacant, is_outside, unit_above, move_to, moves_below, unit_moves}
 use Rattle.tx_bridge.specs.PartMoves.{moves_from, moves_aside, part_moves, arrived, parts_now, all_parts_now}
-use Rattle.tx_bridge.specs.PartsKept.{KeptParts}
+use Rattle.tx_bridge.specs.PartsKept.{KeptParts, part_paths}
 use Rattle.tx_bridge.proofs.Taking.{heads}
 use Rattle.tx_unit_layout.specs.LaidAts.{LaidAt}
-use Rattle.tx_view.specs.Exchanged.{laid_to, laid_moved, all_laid, laid_in_unit, laid_arrived, laid_now, all_laid_now}
-use Rattle.tx_view.specs.Exchanged.{laid_with}
+use Rattle.tx_view.specs.Exchanged.{laid_to}
 use Rattle.tx_view.specs.LaidMoves.{LaidMove, laid_move, laid_moves_below, laid_unit_moves, laid_moves_from}
-use Rattle.tx_view.specs.LaidMoves.{laid_moves_aside, laid_moves, laid_if_to, laid_come, laid_of_new, carried_laid}
-use Rattle.tx_view.specs.LaidMoves.{part_paths, at_paths, AreAllPartsLaid, AreNoPartsLaid, AreLaidAlike}
+use Rattle.tx_view.specs.LaidMoves.{laid_moves_aside, laid_moves, laid_in_unit, laid_arrived, laid_now, all_laid_now}
+use Rattle.tx_view.specs.LaidMoves.{laid_at_paths, AreAllPartsLaid, AreNoPartsLaid, AreAllOrNoneLaid}
 use Rattle.tx_view.proofs.Moved.{IsWithin, AreWithin}
 use Rattle.tx_view.proofs.Numbers.{at_seam, at_front}
+use Rattle.tx_view.proofs.LaidByNumber.{moved_by_number, all_by_number, in_unit_by_number, arrived_by_number}
+use Rattle.tx_view.proofs.LaidByNumber.{now_by_number, all_now_by_number, laid_with}
 
 -- ---- something is laid out of each part that moves, and goes with it
 
 -- what goes with the part
 abbrev goes : List (List LaidAt) → Move → Option LaidMove
-goes all m = option_map (λ l. record { to = m.to; laid = l }) (laid_moved all m)
+goes all m = option_map (λ l. record { to = m.to; laid = l }) (moved_by_number all m)
 
 abbrev GoTogether : List (List LaidAt) → List Move → List LaidMove → Type 0
 GoTogether all ms xs = map (goes all) ms ≡ map (λ x. Some x) xs
@@ -53,7 +54,7 @@ rest_behind_one whole k l ls h n m e = h (suc n) m (omega (arith, e))
 
 module _ (ms : List Mod) (t : WideTree) (vs : List DocUnit) (all : List (List LaidAt)) where
   below_go : (i : ℕ) (whole : List LaidAt) (p : List ℕ) (k : ℕ) (ks : KeptParts) (ls : List LaidAt)
-      → slice_get all i ≡ Some whole → part_paths ks ≡ at_paths ls → IsRest whole k ls
+      → slice_get all i ≡ Some whole → part_paths ks ≡ laid_at_paths ls → IsRest whole k ls
       → GoTogether all (moves_below ms t vs i p k ks) (laid_moves_below ms t vs p ls)
   below_go i whole p k [] [] list e rest = refl
   below_go i whole p k [] (l ∷ ls) list e rest = cc
@@ -64,8 +65,8 @@ module _ (ms : List Mod) (t : WideTree) (vs : List DocUnit) (all : List (List La
       ∙ by (carried_by_all ms t (p ++ l.path))
       (below_go i whole p (k + 1) ks ls list both.1 (rest_behind_one whole k l ls rest))
     where
-      both : (s.path ≡ l.path) × (part_paths ks ≡ at_paths ls)
-      both = heads s.path l.path (part_paths ks) (at_paths ls) e
+      both : (s.path ≡ l.path) × (part_paths ks ≡ laid_at_paths ls)
+      both = heads s.path l.path (part_paths ks) (laid_at_paths ls) e
 
       by : (o : Option (List ℕ))
           → GoTogether all (moves_below ms t vs i p (k + 1) ks) (laid_moves_below ms t vs p ls)
@@ -79,7 +80,7 @@ module _ (ms : List Mod) (t : WideTree) (vs : List DocUnit) (all : List (List La
           ∙ ap (λ ys. Some (laid_move l (unit_above 0 vs place)) ∷ ys) later
 
   unit_goes : (i : ℕ) (u : DocUnit) (ks : KeptParts) (ls : List LaidAt) → slice_get all i ≡ Some ls
-      → part_paths ks ≡ at_paths ls → GoTogether all (unit_moves ms t vs i u ks) (laid_unit_moves ms t vs u ls)
+      → part_paths ks ≡ laid_at_paths ls → GoTogether all (unit_moves ms t vs i u ks) (laid_unit_moves ms t vs u ls)
   unit_goes i u ks ls list e = by (is_vacant (through ms t u.path) vs) u.path
     where
       by : (b : Bool) (o : Option (List ℕ))
@@ -94,7 +95,7 @@ module _ (ms : List Mod) (t : WideTree) (vs : List DocUnit) (all : List (List La
   AreLists i lss = (n m : ℕ) (ls : List LaidAt) → m ≡ i + n → slice_get lss n ≡ Some ls → slice_get all m ≡ Some ls
 
   units_go : (i : ℕ) (us : List DocUnit) (pss : List KeptParts) (lss : List (List LaidAt))
-      → map part_paths pss ≡ map at_paths lss → AreLists i lss
+      → map part_paths pss ≡ map laid_at_paths lss → AreLists i lss
       → GoTogether all (moves_from ms t vs i us pss) (laid_moves_from ms t vs us lss)
   units_go i [] pss lss e lists = refl
   units_go i (u ∷ us) [] [] e lists = refl
@@ -108,11 +109,11 @@ module _ (ms : List Mod) (t : WideTree) (vs : List DocUnit) (all : List (List La
       (units_go (i + 1) us pss lss both.1 (λ n m qs f at. lists (suc n) m qs (omega (arith, f)) at))
       ∙ sym (map-append (λ x. Some x) (laid_unit_moves ms t vs u ls) (laid_moves_from ms t vs us lss))
     where
-      both : (part_paths ks ≡ at_paths ls) × (map part_paths pss ≡ map at_paths lss)
-      both = heads (part_paths ks) (at_paths ls) (map part_paths pss) (map at_paths lss) e
+      both : (part_paths ks ≡ laid_at_paths ls) × (map part_paths pss ≡ map laid_at_paths lss)
+      both = heads (part_paths ks) (laid_at_paths ls) (map part_paths pss) (map laid_at_paths lss) e
 
   aside_go : (i : ℕ) (whole : List LaidAt) (k : ℕ) (ks : KeptParts) (ls : List LaidAt) → slice_get all i ≡ Some whole
-      → part_paths ks ≡ at_paths ls → IsRest whole k ls
+      → part_paths ks ≡ laid_at_paths ls → IsRest whole k ls
       → GoTogether all (moves_aside vs i k ks) (laid_moves_aside vs ls)
   aside_go i whole k [] [] list e rest = refl
   aside_go i whole k [] (l ∷ ls) list e rest = cc
@@ -123,8 +124,8 @@ module _ (ms : List Mod) (t : WideTree) (vs : List DocUnit) (all : List (List La
       ∙ by (is_outside vs l.path)
       (aside_go i whole (k + 1) ks ls list both.1 (rest_behind_one whole k l ls rest))
     where
-      both : (s.path ≡ l.path) × (part_paths ks ≡ at_paths ls)
-      both = heads s.path l.path (part_paths ks) (at_paths ls) e
+      both : (s.path ≡ l.path) × (part_paths ks ≡ laid_at_paths ls)
+      both = heads s.path l.path (part_paths ks) (laid_at_paths ls) e
 
       by : (b : Bool) → GoTogether all (moves_aside vs i (k + 1) ks) (laid_moves_aside vs ls)
           → GoTogether all (cons_option (if b then Some (move_to i k s (length vs, l.path)) else None)
@@ -136,13 +137,14 @@ module _ (ms : List Mod) (t : WideTree) (vs : List DocUnit) (all : List (List La
           (one_goes all whole i k s l (length vs, l.path) list (rest 0 k (omega arith)))
           ∙ ap (λ ys. Some (laid_move l (length vs, l.path)) ∷ ys) later
 
-many_lists : (pss : List KeptParts) (lss : List (List LaidAt)) → map part_paths pss ≡ map at_paths lss
+many_lists : (pss : List KeptParts) (lss : List (List LaidAt)) → map part_paths pss ≡ map laid_at_paths lss
     → length pss ≡ length lss
 many_lists [] [] e = refl
 many_lists [] (ls ∷ lss) e = cc
 many_lists (ks ∷ pss) [] e = cc
 many_lists (ks ∷ pss) (ls ∷ lss) e =
-    ap suc (many_lists pss lss (heads (part_paths ks) (at_paths ls) (map part_paths pss) (map at_paths lss) e).1)
+    ap suc
+    (many_lists pss lss (heads (part_paths ks) (laid_at_paths ls) (map part_paths pss) (map laid_at_paths lss) e).1)
 
 -- of a list that is there the number isn't that behind the last
 front_list : (lss : List (List LaidAt)) (last : List LaidAt) (n : ℕ) (ls : List LaidAt) → slice_get lss n ≡ Some ls
@@ -175,7 +177,7 @@ all_go (suc buffer) ms t us pss lss ks ls vs many are =
 -- what goes with a part goes where it goes
 record GoesWith (all : List (List LaidAt)) (m : Move) (x : LaidMove) : Type 0 where
   to : m.to ≡ x.to
-  laid : laid_moved all m ≡ Some x.laid
+  laid : moved_by_number all m ≡ Some x.laid
   path : m.kept.path ≡ x.laid.path
 
 goes_with : (all : List (List LaidAt)) (m : Move) (x : LaidMove) → goes all m ≡ Some x → GoesWith all m x
@@ -197,30 +199,31 @@ goes_with all m x e = by (option_and_then (λ ls. slice_get ls m.number) (slice_
 
 -- of each that moves something is laid out
 each_goes : (all : List (List LaidAt)) (ms : List Move) (xs : List LaidMove) → GoTogether all ms xs
-    → all_laid all ms ≡ true
+    → all_by_number all ms ≡ true
 each_goes all [] [] e = refl
 each_goes all [] (x ∷ xs) e = cc
 each_goes all (m ∷ ms) [] e = cc
 each_goes all (m ∷ ms) (x ∷ xs) e =
     let both = heads (goes all m) (Some x) (map (goes all) ms) (map (λ y. Some y) xs) e in
-    ap (λ b. b && all_laid all ms) (ap is_some (goes_with all m x both.0).laid) ∙ each_goes all ms xs both.1
+    ap (λ b. b && all_by_number all ms) (ap is_some (goes_with all m x both.0).laid) ∙ each_goes all ms xs both.1
 
 -- it comes to the unit
 they_come : (all : List (List LaidAt)) (j : ℕ) (ms : List Move) (xs : List LaidMove) → GoTogether all ms xs
-    → filter_map (laid_in_unit all j) ms ≡ laid_come xs j
+    → filter_map (in_unit_by_number all j) ms ≡ laid_arrived xs j
 they_come all j [] [] e = refl
 they_come all j [] (x ∷ xs) e = cc
 they_come all j (m ∷ ms) [] e = cc
 they_come all j (m ∷ ms) (x ∷ xs) e =
     let both = heads (goes all m) (Some x) (map (goes all) ms) (map (λ y. Some y) xs) e in
     let one = goes_with all m x both.0 in
-    ap (λ n. cons_option (if n == j then laid_moved all m else None) (filter_map (laid_in_unit all j) ms)) one.to
-    ∙ ap (λ o. cons_option (if x.to == j then o else None) (filter_map (laid_in_unit all j) ms)) one.laid
-    ∙ ap (cons_option (laid_if_to j x)) (they_come all j ms xs both.1)
+    ap (λ n. cons_option (if n == j then moved_by_number all m else None) (filter_map (in_unit_by_number all j) ms))
+    one.to
+    ∙ ap (λ o. cons_option (if x.to == j then o else None) (filter_map (in_unit_by_number all j) ms)) one.laid
+    ∙ ap (cons_option (laid_in_unit j x)) (they_come all j ms xs both.1)
 
 -- and has the paths of what is kept of those that come
 paths_come : (all : List (List LaidAt)) (j : ℕ) (ms : List Move) (xs : List LaidMove) → GoTogether all ms xs
-    → part_paths (arrived ms j) ≡ at_paths (laid_come xs j)
+    → part_paths (arrived ms j) ≡ laid_at_paths (laid_arrived xs j)
 paths_come all j [] [] e = refl
 paths_come all j [] (x ∷ xs) e = cc
 paths_come all j (m ∷ ms) [] e = cc
@@ -230,9 +233,9 @@ paths_come all j (m ∷ ms) (x ∷ xs) e =
     ap (λ n. part_paths (cons_option (if n == j then Some m.kept else None) (arrived ms j))) one.to
     ∙ by (x.to == j) one.path (paths_come all j ms xs both.1)
   where
-    by : (b : Bool) → m.kept.path ≡ x.laid.path → part_paths (arrived ms j) ≡ at_paths (laid_come xs j)
+    by : (b : Bool) → m.kept.path ≡ x.laid.path → part_paths (arrived ms j) ≡ laid_at_paths (laid_arrived xs j)
         → part_paths (cons_option (if b then Some m.kept else None) (arrived ms j))
-        ≡ at_paths (cons_option (if b then Some x.laid else None) (laid_come xs j))
+        ≡ laid_at_paths (cons_option (if b then Some x.laid else None) (laid_arrived xs j))
     by true path later = ap (λ p. p ∷ part_paths (arrived ms j)) path ∙ ap (λ ps. x.laid.path ∷ ps) later
     by false path later = later
 
@@ -253,15 +256,15 @@ none_at (x ∷ lss) ls zero n none = none_there x n none.units.0
 none_at (x ∷ lss) ls (suc i) n none = none_at lss ls i n (record { units = none.units.1; strays = none.strays })
 
 none_come : (lss : List (List LaidAt)) (ls : List LaidAt) (j : ℕ) (moves : List Move) → AreNoPartsLaid lss ls
-    → filter_map (laid_in_unit (laid_with lss ls) j) moves ≡ []
+    → filter_map (in_unit_by_number (laid_with lss ls) j) moves ≡ []
 none_come lss ls j [] none = refl
 none_come lss ls j (m ∷ moves) none =
     ap (λ o. cons_option (if m.to == j then option_map (laid_to m.kept.path) o else None)
-    (filter_map (laid_in_unit (laid_with lss ls) j) moves)) (none_at lss ls m.from m.number none)
+    (filter_map (in_unit_by_number (laid_with lss ls) j) moves)) (none_at lss ls m.from m.number none)
     ∙ by (m.to == j) ∙ none_come lss ls j moves none
   where
-    by : (b : Bool) → cons_option (if b then None else None) (filter_map (laid_in_unit (laid_with lss ls) j) moves)
-        ≡ filter_map (laid_in_unit (laid_with lss ls) j) moves
+    by : (b : Bool) → cons_option (if b then None else None) (filter_map (in_unit_by_number (laid_with lss ls) j) moves)
+        ≡ filter_map (in_unit_by_number (laid_with lss ls) j) moves
     by true = refl
     by false = refl
 
@@ -291,40 +294,40 @@ no_moves (suc buffer) ms t us lss ls vs none = ap (laid_moves_aside vs) none.str
 
 module _ (buffer : ℕ) (ms : List Mod) (t : WideTree) (us : List DocUnit) (pss : List KeptParts)
     (lss : List (List LaidAt)) (ks : KeptParts) (ls : List LaidAt) (vs : List DocUnit)
-    (many : length lss ≡ length us) (alike : AreLaidAlike pss lss ks ls) where
+    (many : length lss ≡ length us) (alike : AreAllOrNoneLaid pss lss ks ls) where
   abbrev told : List Move
   told = part_moves buffer ms t us pss ks vs
 
   abbrev moves : List LaidMove
   moves = laid_moves buffer ms t us lss ls vs
 
-  pub arrive_same : (j : ℕ) → laid_arrived (laid_with lss ls) told j ≡ laid_come moves j
+  pub arrive_same : (j : ℕ) → arrived_by_number (laid_with lss ls) told j ≡ laid_arrived moves j
   arrive_same j = by alike
     where
       none_by : (b : Bool) → AreNoPartsLaid lss ls
-          → (if b then filter_map (laid_in_unit (laid_with lss ls) j) told else []) ≡ []
+          → (if b then filter_map (in_unit_by_number (laid_with lss ls) j) told else []) ≡ []
       none_by true none = none_come lss ls j told none
       none_by false none = refl
 
-      by : AreLaidAlike pss lss ks ls → laid_arrived (laid_with lss ls) told j ≡ laid_come moves j
+      by : AreAllOrNoneLaid pss lss ks ls → arrived_by_number (laid_with lss ls) told j ≡ laid_arrived moves j
       by (inl are) =
           let go = all_go buffer ms t us pss lss ks ls vs many are in
-          ap (λ (b : Bool). if b then filter_map (laid_in_unit (laid_with lss ls) j) told else [])
+          ap (λ (b : Bool). if b then filter_map (in_unit_by_number (laid_with lss ls) j) told else [])
           (each_goes (laid_with lss ls) told moves go)
           ∙ they_come (laid_with lss ls) j told moves go
       by (inr none) =
-          none_by (all_laid (laid_with lss ls) told) none
-          ∙ ap (λ xs. laid_come xs j) (sym (no_moves buffer ms t us lss ls vs none))
+          none_by (all_by_number (laid_with lss ls) told) none
+          ∙ ap (λ xs. laid_arrived xs j) (sym (no_moves buffer ms t us lss ls vs none))
 
   pub units_same : (j : ℕ) (ss : List (Option ℕ)) → AreWithin (length lss) ss
-      → all_laid_now (laid_with lss ls) told j ss ≡ carried_laid lss moves j ss
+      → all_now_by_number (laid_with lss ls) told j ss ≡ all_laid_now lss moves j ss
   units_same j [] within = refl
   units_same j (s ∷ ss) within =
-      ap (λ xs. xs ∷ all_laid_now (laid_with lss ls) told (j + 1) ss) (by s within.0)
-      ∙ ap (λ xss. laid_of_new lss moves j s ∷ xss) (units_same (j + 1) ss within.1)
+      ap (λ xs. xs ∷ all_now_by_number (laid_with lss ls) told (j + 1) ss) (by s within.0)
+      ∙ ap (λ xss. laid_now lss moves j s ∷ xss) (units_same (j + 1) ss within.1)
     where
       by : (o : Option ℕ) → IsWithin (length lss) o
-          → laid_now (laid_with lss ls) told j o ≡ laid_of_new lss moves j o
+          → now_by_number (laid_with lss ls) told j o ≡ laid_now lss moves j o
       by None inside = arrive_same j
       by (Some i) inside =
           ap (λ o. option_map_or (λ xs. xs) o [])
@@ -333,32 +336,34 @@ module _ (buffer : ℕ) (ms : List Mod) (t : WideTree) (us : List DocUnit) (pss 
   -- ---- so it is afterwards
 
   pub alike_after : (ss : List (Option ℕ)) (n : ℕ)
-      → AreLaidAlike (all_parts_now pss told 0 ss) (carried_laid lss moves 0 ss) (arrived told n) (laid_come moves n)
+      → AreAllOrNoneLaid (all_parts_now pss told 0 ss) (all_laid_now lss moves 0 ss) (arrived told n)
+      (laid_arrived moves n)
   alike_after ss n = by alike
     where
       paths_of_list : (qss : List KeptParts) (mss : List (List LaidAt)) (i : ℕ)
-          → map part_paths qss ≡ map at_paths mss
+          → map part_paths qss ≡ map laid_at_paths mss
           → part_paths (option_map_or (λ qs. qs) (slice_get qss i) [])
-          ≡ at_paths (option_map_or (λ xs. xs) (slice_get mss i) [])
+          ≡ laid_at_paths (option_map_or (λ xs. xs) (slice_get mss i) [])
       paths_of_list [] [] i e = refl
       paths_of_list [] (xs ∷ mss) i e = cc
       paths_of_list (qs ∷ qss) [] i e = cc
       paths_of_list (qs ∷ qss) (xs ∷ mss) zero e =
-          (heads (part_paths qs) (at_paths xs) (map part_paths qss) (map at_paths mss) e).0
+          (heads (part_paths qs) (laid_at_paths xs) (map part_paths qss) (map laid_at_paths mss) e).0
       paths_of_list (qs ∷ qss) (xs ∷ mss) (suc i) e =
-          paths_of_list qss mss i (heads (part_paths qs) (at_paths xs) (map part_paths qss) (map at_paths mss) e).1
+          paths_of_list qss mss i
+          (heads (part_paths qs) (laid_at_paths xs) (map part_paths qss) (map laid_at_paths mss) e).1
 
-      units_all : GoTogether (laid_with lss ls) told moves → map part_paths pss ≡ map at_paths lss → (j : ℕ)
+      units_all : GoTogether (laid_with lss ls) told moves → map part_paths pss ≡ map laid_at_paths lss → (j : ℕ)
           (os : List (Option ℕ))
-          → map part_paths (all_parts_now pss told j os) ≡ map at_paths (carried_laid lss moves j os)
+          → map part_paths (all_parts_now pss told j os) ≡ map laid_at_paths (all_laid_now lss moves j os)
       units_all go e j [] = refl
       units_all go e j (None ∷ os) =
           ap (λ ps. ps ∷ map part_paths (all_parts_now pss told (j + 1) os))
           (paths_come (laid_with lss ls) j told moves go)
-          ∙ ap (λ pps. at_paths (laid_come moves j) ∷ pps) (units_all go e (j + 1) os)
+          ∙ ap (λ pps. laid_at_paths (laid_arrived moves j) ∷ pps) (units_all go e (j + 1) os)
       units_all go e j (Some i ∷ os) =
           ap (λ ps. ps ∷ map part_paths (all_parts_now pss told (j + 1) os)) (paths_of_list pss lss i e)
-          ∙ ap (λ pps. at_paths (option_map_or (λ xs. xs) (slice_get lss i) []) ∷ pps) (units_all go e (j + 1) os)
+          ∙ ap (λ pps. laid_at_paths (option_map_or (λ xs. xs) (slice_get lss i) []) ∷ pps) (units_all go e (j + 1) os)
 
       none_of_list : (mss : List (List LaidAt)) (i : ℕ) → AllByRecursion (λ xs. xs ≡ []) mss
           → option_map_or (λ xs. xs) (slice_get mss i) [] ≡ []
@@ -367,15 +372,15 @@ module _ (buffer : ℕ) (ms : List Mod) (t : WideTree) (us : List DocUnit) (pss 
       none_of_list (xs ∷ mss) (suc i) h = none_of_list mss i h.1
 
       units_none : AreNoPartsLaid lss ls → (j : ℕ) (os : List (Option ℕ))
-          → AllByRecursion (λ xs. xs ≡ []) (carried_laid lss moves j os)
+          → AllByRecursion (λ xs. xs ≡ []) (all_laid_now lss moves j os)
       units_none none j [] = tt
       units_none none j (None ∷ os) =
-          (ap (λ xs. laid_come xs j) (no_moves buffer ms t us lss ls vs none), units_none none (j + 1) os)
+          (ap (λ xs. laid_arrived xs j) (no_moves buffer ms t us lss ls vs none), units_none none (j + 1) os)
       units_none none j (Some i ∷ os) = (none_of_list lss i none.units, units_none none (j + 1) os)
 
-      by : AreLaidAlike pss lss ks ls
-          → AreLaidAlike (all_parts_now pss told 0 ss) (carried_laid lss moves 0 ss) (arrived told n)
-          (laid_come moves n)
+      by : AreAllOrNoneLaid pss lss ks ls
+          → AreAllOrNoneLaid (all_parts_now pss told 0 ss) (all_laid_now lss moves 0 ss) (arrived told n)
+          (laid_arrived moves n)
       by (inl are) =
           let go = all_go buffer ms t us pss lss ks ls vs many are in
           inl (record {
@@ -385,5 +390,5 @@ module _ (buffer : ℕ) (ms : List Mod) (t : WideTree) (us : List DocUnit) (pss 
       by (inr none) =
           inr (record {
             units = units_none none 0 ss;
-            strays = ap (λ xs. laid_come xs n) (no_moves buffer ms t us lss ls vs none);
+            strays = ap (λ xs. laid_arrived xs n) (no_moves buffer ms t us lss ls vs none);
           })

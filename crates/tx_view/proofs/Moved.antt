@@ -35,7 +35,6 @@ use Rattle.tx_unit_layout.specs.LaidUnits.{IsLaid, IsLaidOut, AreLaidParts}
 use Rattle.tx_unit_layout.specs.Moving.{WidePart}
 use Rattle.tx_unit_layout.specs.Views.{IsReadable}
 use Rattle.tx_unit_layout.specs.declared.shown.Shown.{Shown}
-use Rattle.tx_view.specs.Exchanged.{laid_arrived, laid_now, laid_with, all_laid_now}
 use Rattle.tx_view.specs.Laid.{PlacedLists, AreLaid, IsBlank, AreArrived, HaveArrived, HasShortPlaces, laid_in}
 use Rattle.tx_view.specs.Laid.{laid_parts_in, placed_in, wide_arrived, taking_shown, source_shown, moved, going}
 use Rattle.tx_view.proofs.Comers.{AreMovesOf, AreAllLaid, AllParts, HasShortLines, HasShortItems, all_kept, moves_are}
@@ -44,6 +43,7 @@ use Rattle.tx_view.proofs.Comers.{short_lines, short_items, short_places}
 use Rattle.tx_view.proofs.Numbers.{AreFrom, from_first, some_there, at_front}
 use Rattle.tx_view.proofs.OfParts.{AreDistinct, all_distinct, arrived_is_laid, same_ats, none_wide, at_wide, wide_ats}
 use Rattle.tx_view.proofs.ShortParts.{parts_are_short}
+use Rattle.tx_view.proofs.LaidByNumber.{arrived_by_number, now_by_number, laid_with, all_now_by_number}
 
 -- ---- one new unit after the other
 
@@ -258,7 +258,7 @@ one_moved width old pss olds kss placed all moves j (Some i) v x laid move blank
               out_there width a (unit_value e.trace) e.unit.path v.path x.path y (sym both.1) blank.path_is
               (h.0.laid a is);
           by_parts = λ a is. h.0.by_parts a is ∙ same_ats a ks e.trace e.unit v both.0 both.1;
-          each_part = h.0.each_part;
+          of_kept = h.0.of_kept;
           same = λ a is. refl;
           parts = h.0.parts;
         }
@@ -317,10 +317,10 @@ ats_one : (olds : List Shown) (strays : List PlacedPart) (moves : List Move) (j 
     (path : Option (List ℕ)) (x : Shown)
     → IsBlank path (wide_arrived (placed_in olds strays) (going (placed_in olds strays) moves) j) x
     → IsWithin (length olds) s → map laid_at (taking_shown x (source_shown olds s)).parts
-    ≡ laid_now (laid_with (laid_parts_in olds) (map laid_at strays)) moves j s
+    ≡ now_by_number (laid_with (laid_parts_in olds) (map laid_at strays)) moves j s
 ats_one olds strays moves j None path x blank within =
     sym (wide_ats x.parts) ∙ ap (map at_wide) blank.parts ∙ arrived_ats (placed_in olds strays) j moves
-    ∙ ap (λ lss. laid_arrived lss moves j) (ats_with olds strays)
+    ∙ ap (λ lss. arrived_by_number lss moves j) (ats_with olds strays)
 ats_one olds strays moves j (Some i) path x blank within =
     let past : i ≡ length (laid_parts_in olds) → ⊥ =
     λ e. omega (arith, e, within i refl, length-map olds (λ (y : Shown). map laid_at y.parts)) in
@@ -338,7 +338,7 @@ pub ats_moved : (olds : List Shown) (strays : List PlacedPart) (moves : List Mov
     (vs : List DocUnit) (xs : List Shown)
     → AreArrived (placed_in olds strays) (going (placed_in olds strays) moves) j vs xs → AreWithin (length olds) ss
     → length ss ≡ length vs → laid_parts_in (moved ss olds xs)
-    ≡ all_laid_now (laid_with (laid_parts_in olds) (map laid_at strays)) moves j ss
+    ≡ all_now_by_number (laid_with (laid_parts_in olds) (map laid_at strays)) moves j ss
 ats_moved olds strays moves j [] [] [] blank within many = refl
 ats_moved olds strays moves j [] [] (x ∷ xs) blank within many = absurd blank
 ats_moved olds strays moves j [] (v ∷ vs) xs blank within many = absurd (omega (arith, many))
@@ -346,7 +346,7 @@ ats_moved olds strays moves j (s ∷ ss) [] xs blank within many = absurd (omega
 ats_moved olds strays moves j (s ∷ ss) (v ∷ vs) [] blank within many = absurd blank
 ats_moved olds strays moves j (s ∷ ss) (v ∷ vs) (x ∷ xs) blank within many =
     ap (λ ls. ls ∷ laid_parts_in (moved ss olds xs)) (ats_one olds strays moves j s v.path x blank.0 within.0)
-    ∙ ap (λ lss. laid_now (laid_with (laid_parts_in olds) (map laid_at strays)) moves j s ∷ lss)
+    ∙ ap (λ lss. now_by_number (laid_with (laid_parts_in olds) (map laid_at strays)) moves j s ∷ lss)
     (ats_moved olds strays moves (j + 1) ss vs xs blank.1 within.1 (omega (arith, many)))
 
 -- a unit without lines but those of parts that have moved to it
@@ -498,9 +498,9 @@ pub carried_on : (width buffer : ℕ) (ms : List Mod) (t : WideTree) (old new : 
     → js ≡ CarryStrays (PartMoves buffer ms t (units_of old) pss ks vs) (length vs)
     → ss ≡ Sources buffer ms t (units_of old) vs → xs ≡ moved ss olds blanks
     → IsCarried width new qss js (map (had (laid_in olds)) (Sources buffer ms t (units_of old) vs))
-    (all_laid_now (laid_with (laid_parts_in olds) (map laid_at before))
+    (all_now_by_number (laid_with (laid_parts_in olds) (map laid_at before))
     (PartMoves buffer ms t (units_of old) pss ks vs) 0 (Sources buffer ms t (units_of old) vs))
-    (laid_arrived (laid_with (laid_parts_in olds) (map laid_at before))
+    (arrived_by_number (laid_with (laid_parts_in olds) (map laid_at before))
     (PartMoves buffer ms t (units_of old) pss ks vs) (length vs)) xs after
 unfolding CarryKept CarryParts CarryStrays Sources
 carried_on width buffer ms t old new pss qss ks js olds blanks xs before after ss vs was hold distinct blank trees
@@ -548,5 +548,5 @@ carried_on width buffer ms t old new pss qss ks js olds blanks xs before after s
           (all_come HasShortItems placed (length vs) (going placed moves) after items blank.1);
       laid_strays =
           sym (wide_ats after) ∙ ap (map at_wide) blank.1 ∙ arrived_ats placed (length vs) moves
-          ∙ ap (λ lss. laid_arrived lss moves (length vs)) (ats_with olds before);
+          ∙ ap (λ lss. arrived_by_number lss moves (length vs)) (ats_with olds before);
     }

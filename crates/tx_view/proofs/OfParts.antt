@@ -54,7 +54,7 @@ arrived_is_laid width e ks ps x blank parts = record {
   path = blank.path_is;
   laid = λ a is. absurd (off a is);
   by_parts = λ a is. absurd (off a is);
-  each_part = λ a is. absurd (off a is);
+  of_kept = λ a is. absurd (off a is);
   same = λ a is. refl;
   parts = parts;
 }

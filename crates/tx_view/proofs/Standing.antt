@@ -23,7 +23,7 @@ use Rattle.tx_view.specs.declared.view.View.TheInside.{Inside}
 use Rattle.tx_view.specs.declared.lone.Lone.{Lone}
 use Rattle.tx_view.specs.Costs.{items_relaid_from}
 use Rattle.tx_view.specs.Laid.{AreLaid, HasShortPlaces, laid_in, laid_parts_in, view_stores_in}
-use Rattle.tx_view.specs.LaidMoves.{AreLaidAlike}
+use Rattle.tx_view.specs.LaidMoves.{AreAllOrNoneLaid}
 use Rattle.tx_view.specs.Lone.{IsLone, IsPaged, WerePages}
 use Rattle.tx_view.specs.RowParts.{AreRowParts}
 use Rattle.tx_view.specs.Rows.{row_parts}
@@ -60,12 +60,13 @@ pub record AreAside (v : Inside) : Type 0 where
   pub stand : StandAside (document_of v.buffers.items) v.bridges.strays
 
 -- where these are shown, something is laid out of each part that is kept, or of none
-abbrev pub AreAlike : Inside → List Shown → Type 0
-AreAlike v xs = AreLaidAlike v.bridges.parts (laid_parts_in xs) (kept_strays v.bridges.strays) (map laid_at v.strays)
+abbrev pub AreAllOrNone : Inside → List Shown → Type 0
+AreAllOrNone v xs =
+    AreAllOrNoneLaid v.bridges.parts (laid_parts_in xs) (kept_strays v.bridges.strays) (map laid_at v.strays)
 
 pub stale : (v : Inside) → IsSized v → v.fresh ≡ false → v.units.items ≡ [] → v.paged.rows.items ≡ 0 ∷ []
     → v.paged.errors.items ≡ 0 ∷ [] → AreLaid v.width v.bridges.kept v.bridges.parts v.hidden.items
-    → AllReadable v.hidden.items → AreAside v → AreAlike v v.hidden.items → IsLeft v → IsKept v
+    → AllReadable v.hidden.items → AreAside v → AreAllOrNone v v.hidden.items → IsLeft v → IsKept v
 stale v sized off none rows errors laid reads aside alike left =
     let all : v.hidden.items ≡ all_of v = ap (λ b. if b then v.units.items else v.hidden.items) (sym off) in
     record {
@@ -85,7 +86,7 @@ stale v sized off none rows errors laid reads aside alike left =
       strays = aside.laid;
       short = aside.short;
       aside = aside.stand;
-      alike = subst (AreAlike v) all alike;
+      alike = subst (AreAllOrNone v) all alike;
       rows = rows ∙ ap (λ xs. sums_from 0 (row_counts (unit_views xs))) (sym none);
       errors = errors ∙ ap (λ xs. sums_from 0 (error_counts (unit_views xs))) (sym none);
       readable = subst AllReadable (sym none) (All-nil IsReadable);
@@ -176,7 +177,7 @@ pub standing : (v : Inside) → IsSized v → v.fresh ≡ true
     → stores_with v.bridges.kept v.bridges.parts (laid_in v.units.items) (laid_parts_in v.units.items)
     (kept_strays v.bridges.strays) (map laid_at v.strays) ≡ Fresh v.buffers.items
     → AreAllApart (unit_views v.units.items) → AreLaid v.width v.bridges.kept v.bridges.parts v.units.items
-    → AllReadable v.units.items → All IsBelow v.units.items → AreAside v → AreAlike v v.units.items → v.lone ≡ None
+    → AllReadable v.units.items → All IsBelow v.units.items → AreAside v → AreAllOrNone v v.units.items → v.lone ≡ None
     → IsKept v
 standing v sized on shown rows paged stores apart laid reads below aside alike none =
     let all : v.units.items ≡ all_of v = ap (λ b. if b then v.units.items else v.hidden.items) (sym on) in
@@ -199,7 +200,7 @@ standing v sized on shown rows paged stores apart laid reads below aside alike n
       strays = aside.laid;
       short = aside.short;
       aside = aside.stand;
-      alike = subst (AreAlike v) all alike;
+      alike = subst (AreAllOrNone v) all alike;
       rows = paged.rows;
       errors = paged.errors;
       readable = reads;

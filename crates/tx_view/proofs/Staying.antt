@@ -34,8 +34,7 @@ use Rattle.tx_unit_layout.specs.Views.{unit_view, IsReadable}
 use Rattle.tx_unit_layout.specs.declared.shown.Shown.{Shown}
 use Rattle.tx_view.specs.declared.carrying.Target.{Target}
 use Rattle.tx_view.specs.declared.carrying.Target.TheVariants.{InPlace, Onto}
-use Rattle.tx_view.specs.Exchanged.{left_at, left_but, laid_arrived, laid_with, all_laid_now, parts_after, strays_after}
-use Rattle.tx_view.specs.Exchanged.{laid_parts_after, laid_strays_after}
+use Rattle.tx_view.specs.Exchanged.{left_at, left_but, parts_after, strays_after}
 use Rattle.tx_view.specs.Laid.{AreLaid, laid_in, laid_parts_in, parts_left, left_with, IsLeftBy, StayBut}
 use Rattle.tx_view.specs.Laid.{IsTarget, IsWay, HasGone, IsLeft, HasShortPlaces}
 use Rattle.tx_view.proofs.Aside.{ats_aside, laid_aside, short_aside}
@@ -43,6 +42,7 @@ use Rattle.tx_view.proofs.Moved.{IsCarried, WasKept, carried_on, Same, AllSame, 
 use Rattle.tx_view.proofs.Numbers.{not_equal, are_equal, AreFrom, from_first}
 use Rattle.tx_view.proofs.OfParts.{AreDistinct, all_distinct, left_laid, left_ats, none_wide, same_ats}
 use Rattle.tx_view.proofs.ShortParts.{stays_short}
+use Rattle.tx_view.proofs.LaidByNumber.{arrived_by_number, laid_with, all_now_by_number, parts_by_way, strays_by_way}
 
 -- ---- one entry is reset
 
@@ -112,7 +112,7 @@ one_left width ms t ps e ks v o y x laid left path are apart = record {
   path = ap (λ (z : Shown). z.path) left ∙ laid.path ∙ sym path;
   laid = λ a there. absurd (off a there);
   by_parts = λ a there. absurd (off a there);
-  each_part = λ a there. absurd (off a there);
+  of_kept = λ a there. absurd (off a there);
   same = λ a there. refl;
   parts =
       subst (λ (z : Shown). AreLaidParts width (parts_within ms t e.unit ks) z.parts) (sym left)
@@ -137,9 +137,9 @@ one_stays width e ks v o y x laid same path tree is = record {
   by_parts = λ a there.
       ap (λ (z : Shown). map laid_at z.parts) same ∙ laid.by_parts a (ap (λ (z : Shown). z.laid) (sym same) ∙ there)
       ∙ same_ats a ks e.trace e.unit v tree (ap is_some path) ∙ ap (λ r. laid_ats a (entry v r) ks) (sym is);
-  each_part = λ a there.
+  of_kept = λ a there.
       subst (λ (z : Shown). AreOf ks z.parts) (sym same)
-      (laid.each_part a (ap (λ (z : Shown). z.laid) (sym same) ∙ there));
+      (laid.of_kept a (ap (λ (z : Shown). z.laid) (sym same) ∙ there));
   same = λ a there. refl;
   parts = subst (λ (z : Shown). AreLaidParts width ks z.parts) (sym same) laid.parts;
 }
@@ -360,9 +360,9 @@ pub carried_by : (width buffer : ℕ) (ms : List Mod) (t : WideTree) (old new : 
     → IsLeft ms t (units_of old) (PartMoves buffer ms t (units_of old) pss ks vs) vs to olds before after
     → HasGone to ss olds xs
     → IsCarried width new qss js (map (had (laid_in olds)) (Sources buffer ms t (units_of old) vs))
-    (laid_parts_after buffer ms t (units_of old) pss ks (laid_parts_in olds) (map laid_at before) vs
+    (parts_by_way buffer ms t (units_of old) pss ks (laid_parts_in olds) (map laid_at before) vs
     (Sources buffer ms t (units_of old) vs))
-    (laid_strays_after buffer ms t (units_of old) pss ks (laid_parts_in olds) (map laid_at before) vs) xs after
+    (strays_by_way buffer ms t (units_of old) pss ks (laid_parts_in olds) (map laid_at before) vs) xs after
 unfolding CarryKept CarryWithin Sources
 carried_by width buffer ms t old new pss qss ks js olds xs before after (InPlace i silent ps) ss vs was hold distinct
     is_new is_parts is_strays is_ss to way left moves =
@@ -402,7 +402,7 @@ carried_by width buffer ms t old new pss qss ks js olds xs before after (InPlace
       laid_parts =
           stay_ats width i 0 i ms t ps old pss olds xs (omega arith) was.laid moves left.0
           ∙ ap (λ o. option_map_or (λ k. left_but ms t k us (laid_parts_in olds)) o
-          (all_laid_now lss told 0 (Sources buffer ms t us vs))) (sym way.0);
+          (all_now_by_number lss told 0 (Sources buffer ms t us vs))) (sym way.0);
       strays =
           subst (λ (is : KeptParts). AreLaidParts width is after) (sym beside)
           (subst (λ (qs : List PlacedPart). AreLaidParts width (filter (λ k. is_beside (path_at i us) k.path) ks) qs)
@@ -413,7 +413,7 @@ carried_by width buffer ms t old new pss qss ks js olds xs before after (InPlace
       laid_strays =
           ap (map laid_at) left.1 ∙ ats_aside (is_beside (path_at i us)) before
           ∙ ap (λ o. option_map_or (λ n. filter (λ l. is_beside (path_at n us) l.path) (map laid_at before)) o
-          (laid_arrived lss told (length vs))) (sym way.0);
+          (arrived_by_number lss told (length vs))) (sym way.0);
     }
 carried_by width buffer ms t old new pss qss ks js olds xs before after (Onto blanks) ss vs was hold distinct is_new
     is_parts is_strays is_ss to way left moves =
@@ -433,11 +433,11 @@ carried_by width buffer ms t old new pss qss ks js olds xs before after (Onto bl
       laid_parts =
           on.laid_parts
           ∙ ap (λ o. option_map_or (λ k. left_but ms t k us (laid_parts_in olds)) o
-          (all_laid_now lss told 0 (Sources buffer ms t us vs))) (sym way.0);
+          (all_now_by_number lss told 0 (Sources buffer ms t us vs))) (sym way.0);
       strays = on.strays;
       short = on.short;
       laid_strays =
           on.laid_strays
           ∙ ap (λ o. option_map_or (λ n. filter (λ l. is_beside (path_at n us) l.path) (map laid_at before)) o
-          (laid_arrived lss told (length vs))) (sym way.0);
+          (arrived_by_number lss told (length vs))) (sym way.0);
     }

@@ -32,7 +32,7 @@ use Rattle.tx_unit_layout.specs.Views.{unit_view}
 use Rattle.tx_unit_layout.specs.declared.shown.Shown.{Shown}
 use Rattle.tx_view.specs.Costs.{items_at}
 use Rattle.tx_view.specs.Exchanged.{exchanged, left_but}
-use Rattle.tx_view.specs.LaidMoves.{laid_moves, laid_come, carried_laid}
+use Rattle.tx_view.specs.LaidMoves.{laid_moves, laid_arrived, all_laid_now}
 use Rattle.tx_view.specs.Stores.{ViewStores, HasUnitOf}
 use Rattle.tx_layout.specs.Paging.{Unmarked}
 use Rattle.tx_view.specs.declared.carrying.Former.{Former}
@@ -285,12 +285,12 @@ AreLaidOutside us ls = AllByRecursion (λ l. NoneAbove l.path us) ls
 unfoldable pub LaidGoes : ℕ → List Mod → WideTree → WideTree → List DocUnit → Type 0
 LaidGoes i ms t x us = (lss : List (List LaidAt)) (ls : List LaidAt) → length lss ≡ length us → AreLaidOutside us ls
     → (left_but ms t i us lss
-    ≡ carried_laid lss (laid_moves 0 ms t us lss ls (units_with i x us)) 0 (Sources 0 ms t us (units_with i x us)))
+    ≡ all_laid_now lss (laid_moves 0 ms t us lss ls (units_with i x us)) 0 (Sources 0 ms t us (units_with i x us)))
     × (filter (λ l. is_beside (path_at i us) l.path) ls
-    ≡ laid_come (laid_moves 0 ms t us lss ls (units_with i x us)) (length (units_with i x us)))
+    ≡ laid_arrived (laid_moves 0 ms t us lss ls (units_with i x us)) (length (units_with i x us)))
 
--- the units vs are us, of which that of number i alone has changed
-pub record HaveOneChanged (i : ℕ) (ms : List Mod) (t : WideTree) (us vs : List DocUnit) : Type 0 where
+-- The units vs are us, of which that of number i alone has another tree, and what is laid out goes then by its path.
+pub record AreUnitsBut (i : ℕ) (ms : List Mod) (t : WideTree) (us vs : List DocUnit) : Type 0 where
   pub tree : WideTree
   pub are : vs ≡ units_with i tree us
   pub laid : LaidGoes i ms t tree us
@@ -299,7 +299,7 @@ pub record HaveOneChanged (i : ℕ) (ms : List Mod) (t : WideTree) (us vs : List
 abbrev pub IsWay : ℕ → List Mod → WideTree → List DocUnit → List DocUnit → List (Option ℕ) → Target → Type 0
 IsWay buffer ms t us vs ss (InPlace i silent ps) =
     (exchanged buffer ms t us ≡ Some i) × IsOneChanged i buffer ms us × HaveSameTrees us vs ss
-    × HaveOneChanged i ms t us vs
+    × AreUnitsBut i ms t us vs
 IsWay buffer ms t us vs ss (Onto blanks) = (exchanged buffer ms t us ≡ None) × HaveSameTrees us vs ss
 
 abbrev pub IsFew : Target → Type 0

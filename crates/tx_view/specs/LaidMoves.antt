@@ -1,4 +1,5 @@
--- Where what is laid out of parts goes through an edit: each by its path, whatever is kept there.
+-- Where what is laid out of parts goes through an edit: with its unit, where that is a new one, and else by its path.
+-- What is kept plays no part. Of what is kept, all or nothing is laid out.
 use Rattle.std.specs.Prelude.{◌≡◌, ℕ, zero, suc, ◌+◌, ◌==◌, if◌then◌else◌, List, [], ◌∷◌, ◌++◌, length, map}
 use Rattle.std.specs.Prelude.{Option, Some, None, slice_get, ◌⊎◌}
 use Rattle.std.specs.List.{AllByRecursion, cons_option, filter_map}
@@ -9,8 +10,9 @@ use Rattle.tx_mod.specs.Followed.{carried_by_all}
 use Rattle.tx_units.specs.declared.kinds.Unit.{Unit as DocUnit}
 use Rattle.tx_bridge.specs.Carrying.{through}
 use Rattle.tx_bridge.specs.PartMoves.{is_vacant, is_outside, unit_above}
-use Rattle.tx_bridge.specs.PartsKept.{KeptParts}
+use Rattle.tx_bridge.specs.PartsKept.{KeptParts, part_paths}
 use Rattle.tx_unit_layout.specs.LaidAts.{LaidAt}
+use Rattle.tx_view.specs.Exchanged.{laid_to}
 
 -- This is laid out of a part of the new unit `to` then, or of a stray, where `to` is the number behind the last unit's.
 pub record LaidMove : Type 0 where
@@ -18,7 +20,7 @@ pub record LaidMove : Type 0 where
   pub laid : LaidAt
 
 abbrev pub laid_move : LaidAt → ℕ × List ℕ → LaidMove
-laid_move l x = record { to = x.0; laid = record { path = x.1; before = l.before } }
+laid_move l x = record { to = x.0; laid = laid_to x.1 l }
 
 -- ---- all moves, where the modifications change the tree t, and vs are the new units
 
@@ -29,7 +31,8 @@ laid_move_from ms t vs q l = option_map (λ place. laid_move l (unit_above 0 vs 
 -- so of each that stood below p
 abbrev pub laid_moves_below : List Mod → WideTree → List DocUnit → List ℕ → List LaidAt → List LaidMove
 laid_moves_below ms t vs p [] = []
-laid_moves_below ms t vs p (l ∷ ls) = cons_option (laid_move_from ms t vs (p ++ l.path) l) (laid_moves_below ms t vs p ls)
+laid_moves_below ms t vs p (l ∷ ls) =
+    cons_option (laid_move_from ms t vs (p ++ l.path) l) (laid_moves_below ms t vs p ls)
 
 -- those of the parts of the old unit, if no new one stands where it does
 abbrev pub laid_unit_moves : List Mod → WideTree → List DocUnit → DocUnit → List LaidAt → List LaidMove
@@ -55,41 +58,39 @@ laid_moves (suc buffer) ms t us lss ls vs = laid_moves_aside vs ls
 
 -- ---- what new units have
 
-abbrev pub laid_if_to : ℕ → LaidMove → Option LaidAt
-laid_if_to j m = if m.to == j then Some m.laid else None
+abbrev pub laid_in_unit : ℕ → LaidMove → Option LaidAt
+laid_in_unit j m = if m.to == j then Some m.laid else None
 
 -- what has moved to the new unit j, or to the strays, where j is the number behind the last
-abbrev pub laid_come : List LaidMove → ℕ → List LaidAt
-laid_come moves j = filter_map (laid_if_to j) moves
+abbrev pub laid_arrived : List LaidMove → ℕ → List LaidAt
+laid_arrived moves j = filter_map (laid_in_unit j) moves
 
 -- what the new unit j has: all of the old one that it is, or what has moved to it
-abbrev pub laid_of_new : List (List LaidAt) → List LaidMove → ℕ → Option ℕ → List LaidAt
-laid_of_new lss moves j s =
-    option_map_or (λ i. option_map_or (λ ls. ls) (slice_get lss i) []) s (laid_come moves j)
+abbrev pub laid_now : List (List LaidAt) → List LaidMove → ℕ → Option ℕ → List LaidAt
+laid_now lss moves j s =
+    option_map_or (λ i. option_map_or (λ ls. ls) (slice_get lss i) []) s (laid_arrived moves j)
 
 -- so it is of each new unit, from number j on
-abbrev pub carried_laid : List (List LaidAt) → List LaidMove → ℕ → List (Option ℕ) → List (List LaidAt)
-carried_laid lss moves j [] = []
-carried_laid lss moves j (s ∷ ss) = laid_of_new lss moves j s ∷ carried_laid lss moves (j + 1) ss
+abbrev pub all_laid_now : List (List LaidAt) → List LaidMove → ℕ → List (Option ℕ) → List (List LaidAt)
+all_laid_now lss moves j [] = []
+all_laid_now lss moves j (s ∷ ss) = laid_now lss moves j s ∷ all_laid_now lss moves (j + 1) ss
 
 -- ---- what is true of a view at every moment
 
-abbrev pub part_paths : KeptParts → List (List ℕ)
-part_paths ks = map (λ k. k.path) ks
+abbrev pub laid_at_paths : List LaidAt → List (List ℕ)
+laid_at_paths ls = map (λ l. l.path) ls
 
-abbrev pub at_paths : List LaidAt → List (List ℕ)
-at_paths ls = map (λ l. l.path) ls
+-- what is laid out is of just the parts that are kept, in their order
+pub record AreAllPartsLaid (pss : List KeptParts) (lss : List (List LaidAt)) (ks : KeptParts) (ls : List LaidAt)
+    : Type 0 where
+  pub units : map part_paths pss ≡ map laid_at_paths lss
+  pub strays : part_paths ks ≡ laid_at_paths ls
 
--- something is laid out of each part that is kept, in their order
-pub record AreAllPartsLaid (pss : List KeptParts) (lss : List (List LaidAt)) (ks : KeptParts) (ls : List LaidAt) : Type 0
-  where
-    pub units : map part_paths pss ≡ map at_paths lss
-    pub strays : part_paths ks ≡ at_paths ls
-
--- nothing is laid out of any
+-- nothing is laid out of a part
 pub record AreNoPartsLaid (lss : List (List LaidAt)) (ls : List LaidAt) : Type 0 where
-  pub units : AllByRecursion (λ ms. ms ≡ []) lss
+  pub units : AllByRecursion (λ ls. ls ≡ []) lss
   pub strays : ls ≡ []
 
-abbrev pub AreLaidAlike : List KeptParts → List (List LaidAt) → KeptParts → List LaidAt → Type 0
-AreLaidAlike pss lss ks ls = AreAllPartsLaid pss lss ks ls ⊎ AreNoPartsLaid lss ls
+-- one of both
+abbrev pub AreAllOrNoneLaid : List KeptParts → List (List LaidAt) → KeptParts → List LaidAt → Type 0
+AreAllOrNoneLaid pss lss ks ls = AreAllPartsLaid pss lss ks ls ⊎ AreNoPartsLaid lss ls

@@ -1,6 +1,5 @@
 -- What crates above cite by name. They don't open these definitions.
 use Rattle.std.specs.Prelude.{◌≡◌, ℕ, ◌+◌, List, [], map, length, None}
-use Rattle.std.specs.List.{AllByRecursion}
 use Rattle.tx_mod.specs.declared.mods.Mod.{Mod}
 use Rattle.tx_doc.specs.Buffers.{document_of, tree_of}
 use Rattle.tx_doc.specs.declared.buffer.Buffer.{Buffer}
@@ -12,8 +11,8 @@ use Rattle.tx_bridge.specs.Sound.{AllHold}
 use Rattle.tx_bridge.specs.HeldParts.{AllPartsHold, StoredAllHold}
 use Rattle.tx_bridge.specs.Names.{Charge, Sources, CarryTraces as CarryKept, CarryParts, CarryStrays, PartMoves}
 use Rattle.tx_view.specs.Costs.{items_relaid_from}
-use Rattle.tx_view.specs.LaidMoves.{laid_moves, laid_come, carried_laid}
-use Rattle.tx_view.specs.Stores.{ViewStores, fresh_stores, IsOfKeptPart, AllLaidAreKept}
+use Rattle.tx_view.specs.LaidMoves.{laid_moves, laid_arrived, all_laid_now, AreAllOrNoneLaid}
+use Rattle.tx_view.specs.Stores.{ViewStores, fresh_stores}
 
 -- nothing is kept of the units of these buffers
 unfoldable pub Empty : List Buffer → ViewStores
@@ -47,23 +46,24 @@ Carry buffer ms old s new = record {
       (Sources buffer ms (tree_of old buffer) (units_of s.kept) (units new));
   laid = map (had s.laid) (Sources buffer ms (tree_of old buffer) (units_of s.kept) (units new));
   laid_parts =
-      carried_laid s.laid_parts
+      all_laid_now s.laid_parts
       (laid_moves buffer ms (tree_of old buffer) (units_of s.kept) s.laid_parts s.laid_strays (units new)) 0
       (Sources buffer ms (tree_of old buffer) (units_of s.kept) (units new));
   strays =
       CarryStrays (PartMoves buffer ms (tree_of old buffer) (units_of s.kept) s.parts s.strays (units new))
       (length (units new));
   laid_strays =
-      laid_come
+      laid_arrived
       (laid_moves buffer ms (tree_of old buffer) (units_of s.kept) s.laid_parts s.laid_strays (units new))
       (length (units new));
 }
 
 -- What is kept is of the units of these buffers, of their parts, and of strays, which are places of the document. The
 -- trace of a unit, of a part or of a stray is that of its tree wherever what it looked up is as it was. What is laid
--- out of a part, or of a stray, is of one that is kept.
+-- out is of just the parts and strays that are kept, or nothing is.
 unfoldable pub Holds : List Buffer → ViewStores → Type 0
 Holds buffers s =
     AllHold s.kept × AllPartsHold s.kept s.parts × (units_of s.kept ≡ units buffers)
-    × (length s.laid ≡ length s.kept) × AllLaidAreKept s.parts s.laid_parts
-    × StoredAllHold (document_of buffers) s.strays × AllByRecursion (IsOfKeptPart s.strays) s.laid_strays
+    × (length s.laid ≡ length s.kept) × (length s.laid_parts ≡ length s.kept)
+    × StoredAllHold (document_of buffers) s.strays
+    × AreAllOrNoneLaid s.parts s.laid_parts s.strays s.laid_strays

@@ -3,14 +3,13 @@ use Rattle.std.specs.Prelude.{◌≡◌, ℕ, ◌⊎◌, List, [], ◌∷◌, �
 use Rattle.std.specs.Prelude.{slice_get}
 use Rattle.std.specs.List.{AllByRecursion}
 use Rattle.std.specs.Coded.{Coded, code_by, coded×, coded_list, coded_option}
-use Rattle.tx_exec_form.specs.Evaluated.{WideTrace}
 use Rattle.tx_items.specs.contracts.attributes.Attrs as one_attrs
 use Rattle.tx_items.specs.declared.attributes.Attrs.{Attrs}
 use Rattle.tx_units.specs.declared.kinds.Unit.{Unit as DocUnit}
 use Rattle.tx_view_form.specs.Outcomes.{Moment, beginning, behind}
 use Rattle.tx_view_form.specs.Started.{attributes_of}
 use Rattle.tx_bridge.specs.Bridged.{coded_Entry, coded_Stored, coded_parts}
-use Rattle.tx_bridge.specs.PartsKept.{KeptParts, kept_at, fresh_parts, fresh_parts_from}
+use Rattle.tx_bridge.specs.PartsKept.{KeptParts, fresh_parts, fresh_parts_from}
 use Rattle.tx_bridge.specs.Entries.{Entry, Kept, fresh_from, outcome_of}
 use Rattle.tx_unit_layout.specs.LaidAts.{LaidAt, laid_ats, coded_laid_ats}
 use Rattle.tx_view.specs.Costs.{entry_at}
@@ -47,17 +46,6 @@ fresh_stores us = record {
   strays = [];
   laid_strays = [];
 }
-
--- something is kept at the path
-abbrev pub IsOfKeptPart : KeptParts → LaidAt → Type 0
-IsOfKeptPart ks l = (trace : WideTrace) × (kept_at ks l.path ≡ Some trace)
-
--- what is laid out of parts of a unit is of parts that are kept
-abbrev pub AllLaidAreKept : List KeptParts → List (List LaidAt) → Type 0
-AllLaidAreKept [] [] = Unit {0}
-AllLaidAreKept [] (ls ∷ lss) = ⊥
-AllLaidAreKept (ks ∷ pss) [] = ⊥
-AllLaidAreKept (ks ∷ pss) (ls ∷ lss) = AllByRecursion (IsOfKeptPart ks) ls × AllLaidAreKept pss lss
 
 -- ---- what a refresh leaves that lacked memory
 

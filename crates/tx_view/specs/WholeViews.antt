@@ -22,7 +22,7 @@ use Rattle.tx_bridge.specs.Strays.{StandAside, kept_strays}
 use Rattle.tx_unit_layout.specs.LaidAts.{laid_at}
 use Rattle.tx_unit_layout.specs.LaidUnits.{AreLaidParts}
 use Rattle.tx_view.specs.Laid.{all_stores_in, AreLaid, HasShortPlaces, laid_parts_in}
-use Rattle.tx_view.specs.LaidMoves.{AreLaidAlike}
+use Rattle.tx_view.specs.LaidMoves.{AreAllOrNoneLaid}
 use Rattle.tx_view.specs.Lone.{IsLone, WerePages}
 use Rattle.tx_view.specs.Names.{Fresh}
 use Rattle.tx_view.specs.Stores.{ViewStores, coded_Stores}
@@ -85,7 +85,7 @@ pub record IsKept (v : Inside) : Type 0 where
   pub short : AllByRecursion HasShortPlaces v.strays
   pub aside : StandAside (document_of v.buffers.items) v.bridges.strays
   pub alike :
-      AreLaidAlike v.bridges.parts (laid_parts_in (all_of v)) (kept_strays v.bridges.strays) (map laid_at v.strays)
+      AreAllOrNoneLaid v.bridges.parts (laid_parts_in (all_of v)) (kept_strays v.bridges.strays) (map laid_at v.strays)
   pub rows : v.paged.rows.items ≡ sums_from 0 (row_counts (unit_views v.units.items))
   pub errors : v.paged.errors.items ≡ sums_from 0 (error_counts (unit_views v.units.items))
   pub lone : IfSome v.lone (λ l. IsLone v.bridges.kept v.hidden.items l.unit l.attrs

@@ -224,11 +224,11 @@ impl View {
     /// modifications make of the former one, applied one after the other. It isn't fresh and shows nothing. What is
     /// kept of a unit goes with it, and what is kept of its parts too: a paragraph of the document goes by the
     /// modifications from path to path, and another unit stays the one of its number, where kind and tree are the same.
-    /// The trace goes of a paragraph inside which a modification is. Its parts, and strays, which are the parts that
-    /// stand in no paragraph since an edit, go with what is kept of them to the paragraphs in which they stand then, or
-    /// they are strays. What is laid out of a part goes by its path, each by itself, as what is kept there does.
-    /// Nothing is evaluated. The steps rise by at most the paths' lengths, three for each modification, and the nodes
-    /// that are made for units. For want of memory all stays.
+    /// A paragraph whose subtree isn't carried by them, or is carried to a place that is no paragraph, loses its trace.
+    /// Its parts, and strays, which are the parts that stand in no paragraph since an edit, are carried each by itself:
+    /// to the paragraph in which it stands then, or it is a stray. Where its subtree isn't carried, what is kept of it
+    /// is dropped. So it is with what is laid out of a part, by its path alone. The steps rise by at most the paths'
+    /// lengths, three for each modification, and the nodes that are made for units. For want of memory all stays.
     pub fn edited<L: Ledger>(
         &mut self,
         alloc: Global,
@@ -335,7 +335,8 @@ impl View {
 
     /// Whether it is fresh. At every moment, also behind a refresh that lacked memory, what is kept is of the units of
     /// the present buffers, or of strays that stand in the document, and the trace of a unit, or of a part or a stray,
-    /// is that of its tree in each environment that agrees with what it looked up.
+    /// is that of its tree in each environment that agrees with what it looked up. What is laid out is of just the
+    /// parts and strays that are kept, or nothing is.
     pub fn fresh(&self) -> bool
         ensures fresh { result ≡ self.now.fresh }
         ensures view { IsTrue result → IsView self.now.buffers self.now.width self.now.height self.now.shown }

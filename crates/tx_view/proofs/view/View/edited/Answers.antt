@@ -14,7 +14,7 @@ use Rattle.tx_unit_layout.specs.LaidAts.{laid_at}
 use Rattle.tx_unit_layout.specs.declared.shown.Shown.{Shown}
 use Rattle.tx_view.specs.declared.view.View.TheInside.{Inside}
 use Rattle.tx_view.specs.Laid.{laid_in, laid_parts_in}
-use Rattle.tx_view.specs.LaidMoves.{laid_moves, laid_come, carried_laid}
+use Rattle.tx_view.specs.LaidMoves.{laid_moves, laid_arrived, all_laid_now}
 use Rattle.tx_view.specs.Names.{Carry}
 use Rattle.tx_view.specs.WholeViews.{WholeView, whole_of, view_stores_of, all_of}
 use Rattle.tx_view.proofs.Blank.{many_with}
@@ -143,12 +143,12 @@ returns-clause-ok g c =
     (Sources c.args.buffer c.args.mods.now (tree_of bs c.args.buffer) (units_of kept) (units after)))
     (map (had (laid_in olds)) (Sources c.args.buffer c.args.mods.now (tree_of bs c.args.buffer) (units_of kept)
     (units after)))
-    (carried_laid (laid_parts_in olds) (laid_moves c.args.buffer c.args.mods.now (tree_of bs c.args.buffer)
+    (all_laid_now (laid_parts_in olds) (laid_moves c.args.buffer c.args.mods.now (tree_of bs c.args.buffer)
     (units_of kept) (laid_parts_in olds) (map laid_at c.self.inside.strays) (units after)) 0
     (Sources c.args.buffer c.args.mods.now (tree_of bs c.args.buffer) (units_of kept) (units after)))
     (CarryStrays (PartMoves c.args.buffer c.args.mods.now (tree_of bs c.args.buffer) (units_of kept)
     c.self.inside.bridges.parts strays (units after)) (length (units after)))
-    (laid_come (laid_moves c.args.buffer c.args.mods.now (tree_of bs c.args.buffer) (units_of kept)
+    (laid_arrived (laid_moves c.args.buffer c.args.mods.now (tree_of bs c.args.buffer) (units_of kept)
     (laid_parts_in olds) (map laid_at c.self.inside.strays) (units after)) (length (units after))) refl
     c.clear.ensures.items
     (ap (λ (p : Pagination). p.pages.items) c.replace-paged.ensures.after ∙ c.in_ok-nothing.ensures.pages)

@@ -10,7 +10,7 @@ use Rattle.tx_view.specs.declared.view.View.TheInside.{Inside}
 use Rattle.tx_view.specs.Laid.{AreLaid, AreBlank}
 use Rattle.tx_view.specs.Names.{Empty}
 use Rattle.tx_view.proofs.Blank.{empty_is, empty_parts_is, blank_laid, blank_attributes, blank_ats, blank_readable}
-use Rattle.tx_view.proofs.LaidCarried.{none_laid}
+use Rattle.tx_view.proofs.LaidCarried.{laid_new}
 use Rattle.tx_view.proofs.Standing.{stale, none_aside, stale_view}
 use Rattle.tx_view.proofs.view.View.new.Goals as goal
 
@@ -35,7 +35,7 @@ invariant_of-result g c =
     (sym (c.in_ok-start.ensures.parts ∙ empty_parts_is us)) (blank_laid c.args.width us xs blank)))
     (blank_readable us xs blank)
     (none_aside _ c.none.ensures (subst (StandAside _) (sym c.in_ok-start.ensures.strays) tt))
-    (none_laid us _ _ _ _ (blank_ats us xs blank) (ap (map laid_at) c.none.ensures)) tt
+    (laid_new us _ _ _ _ (blank_ats us xs blank) (ap (map laid_at) c.none.ensures)) tt
 
 pub returns-clause-view : goal.returns-clause-view
 unfolding Empty

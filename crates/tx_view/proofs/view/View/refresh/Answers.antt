@@ -13,7 +13,7 @@ use Rattle.tx_unit_layout.specs.LaidAts.{laid_at}
 use Rattle.tx_unit_layout.specs.declared.shown.Shown.{Shown}
 use Rattle.tx_view.specs.declared.view.View.TheInside.{Inside}
 use Rattle.tx_view.specs.Laid.{AreLaid, laid_in, laid_parts_in, view_stores_in}
-use Rattle.tx_view.specs.LaidMoves.{AreLaidAlike}
+use Rattle.tx_view.specs.LaidMoves.{AreAllOrNoneLaid}
 use Rattle.tx_view.specs.Lone.{IsPaged}
 use Rattle.tx_view.specs.Names.{Bound, Fresh}
 use Rattle.tx_view.specs.RowParts.{AreRowParts}
@@ -21,8 +21,8 @@ use Rattle.tx_view.specs.Rows.{row_parts}
 use Rattle.tx_view.specs.Units.{unit_views, sums_from, row_counts, error_counts, IsBelow, AreAllApart}
 use Rattle.tx_view.proofs.Forgetting.{AllReadable}
 use Rattle.tx_view.proofs.Partly.{stay_aside}
-use Rattle.tx_view.proofs.LaidCarried.{all_laid}
-use Rattle.tx_view.proofs.Standing.{AreAlike, stale, left_none, none_aside, standing, stores_with, bound_stale}
+use Rattle.tx_view.proofs.LaidCarried.{laid_fresh}
+use Rattle.tx_view.proofs.Standing.{AreAllOrNone, stale, left_none, none_aside, standing, stores_with, bound_stale}
 use Rattle.tx_view.proofs.view.View.refresh.Goals as goal
 
 -- behind want of memory
@@ -57,7 +57,7 @@ invariant_of-self g c =
     (none_aside v c.forget.ensures
     (stay_aside (document_of c.self.inside.buffers.items) c.self.inside.bridges.strays c.made_anew.new.bridges.strays
     c.in_err-paged.ensures.strays_left c.self.invariant.aside))
-    (subst (AreAlike v) now (inr (record {
+    (subst (AreAllOrNone v) now (inr (record {
       units = c.in_err-paged.ensures.refused.laid_parts;
       strays = ap (map laid_at) c.forget.ensures;
     }))) (left_none v c.replace-lone.ensures.after)
@@ -101,9 +101,9 @@ invariant_of-self-2 g c =
     (none_aside _ c.forget.ensures
     (stay_aside (document_of c.self.inside.buffers.items) c.self.inside.bridges.strays c.made_anew.new.bridges.strays
     (inr c.in_ok-paged.ensures.strays) c.self.invariant.aside))
-    (subst (λ (xs : List Shown). AreLaidAlike c.made_anew.new.bridges.parts (laid_parts_in xs)
+    (subst (λ (xs : List Shown). AreAllOrNoneLaid c.made_anew.new.bridges.parts (laid_parts_in xs)
     (kept_strays c.made_anew.new.bridges.strays) (map laid_at c.forget.new.self)) now
-    (all_laid c.self.inside.width c.deref.result.now c.made_anew.new.bridges c.made_anew.new.all
+    (laid_fresh c.self.inside.width c.deref.result.now c.made_anew.new.bridges c.made_anew.new.all
     (map laid_at c.forget.new.self) c.in_ok-paged.ensures.laid c.in_ok-paged.ensures.stores
     c.in_ok-paged.ensures.strays (ap (map laid_at) c.forget.ensures))) c.replace-lone.ensures.after
 
