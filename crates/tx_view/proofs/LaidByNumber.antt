@@ -1,5 +1,5 @@
--- What the program does with what is laid out of parts, said by the numbers of moves, and by the way that an edit takes.
-use Rattle.std.specs.Prelude.{ℕ, ◌+◌, Bool, ◌==◌, is_some, if◌then◌else◌, List, [], ◌∷◌, ◌++◌, length, Option, Some, None}
+-- What the program does with what is laid out of parts, by the numbers of moves, and by the way that an edit takes.
+use Rattle.std.specs.Prelude.{ℕ, ◌+◌, Bool, ◌==◌, is_some, if◌then◌else◌, List, [], ◌∷◌, ◌++◌, length, Option, None}
 use Rattle.std.specs.Prelude.{option_and_then, slice_get}
 use Rattle.std.specs.List.{filter, filter_map, list_all}
 use Rattle.std.specs.Option.{option_map, option_map_or}

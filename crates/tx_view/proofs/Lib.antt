@@ -20,6 +20,7 @@ pub mod Adding
 pub mod Comers
 pub mod Moved
 pub mod Staying
+pub mod LaidByNumber
 pub mod LaidTogether
 pub mod LaidAlone
 pub mod LaidCarried
