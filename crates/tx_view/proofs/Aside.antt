@@ -18,10 +18,10 @@ use Rattle.tx_part_layout.specs.LaidParts.{IsLaidPart}
 use Rattle.tx_bridge.proofs.KeptAlong.{strays_hold}
 use Rattle.tx_bridge.specs.Entries.{Entry, Kept, units_of}
 use Rattle.tx_bridge.specs.InPlace.{begins_path}
-use Rattle.tx_bridge.specs.HeldParts.{StoredHolds, StoredAllHold}
+use Rattle.tx_bridge.specs.HeldParts.{StoredAllHold}
 use Rattle.tx_bridge.specs.Names.{StraysBeside}
 use Rattle.tx_bridge.specs.PartsKept.{KeptParts}
-use Rattle.tx_bridge.specs.Strays.{Stray, HoldsStray, AreStrays, StandAside, kept_strays, is_beside, path_at}
+use Rattle.tx_bridge.specs.Strays.{Stray, AreStrays, StandAside, kept_strays, is_beside, path_at}
 use Rattle.tx_unit_layout.specs.LaidAts.{laid_at}
 use Rattle.tx_unit_layout.specs.LaidUnits.{AreOf, AreLaidParts}
 use Rattle.tx_view.specs.Laid.{HasShortPlaces, placed_beside}

@@ -1,13 +1,13 @@
 -- Where one unit changes alone, what is left of what is laid out of parts is what moves by its path. The law of what is
 -- kept of parts says so of whatever goes with them: here a trace that tells attributes apart.
 use Rattle.std.proofs.Common.{◌≡◌, ℕ, zero, suc, ◌+◌, Bool, true, false, cond, List, [], ◌∷◌, ◌++◌, length, map, Option}
-use Rattle.std.proofs.Common.{Some, None, refl, ap, ap₂, sym, subst, ◌∙◌, inl, inr}
+use Rattle.std.proofs.Common.{Some, None, refl, ap, ap₂, sym, ◌∙◌}
 use Rattle.std.proofs.lemmas.Bool.Decides.{Decides-int_eq}
 use Rattle.std.proofs.lemmas.List.{map-append}
 use Rattle.std.proofs.lemmas.Option.{slice_get-map}
 use Rattle.std.proofs.lemmas.Slice.Eq.{bytes_eq-Decides}
 use Rattle.std.specs.FinMap.{empty}
-use Rattle.std.specs.List.{AllByRecursion, cons_option, filter, filter_map}
+use Rattle.std.specs.List.{cons_option, filter, filter_map}
 use Rattle.std.specs.Option.{option_map, option_map_or}
 use Rattle.std.specs.Prelude.{◌==◌, ◌&&◌, if◌then◌else◌, slice_get, option_and_then}
 use Rattle.tx_tree.specs.WideTree.{WideTree, leaf}
@@ -23,10 +23,10 @@ use Rattle.tx_items.specs.declared.attributes.Attrs.{Attrs}
 use Rattle.tx_view_form.specs.Outcomes.{beginning}
 use Rattle.tx_view_form.specs.Started.{attributes_of}
 use Rattle.tx_bridge.specs.Carrying.{through}
-use Rattle.tx_bridge.specs.CarryingParts.{and_part, parts_behind, parts_within, parts_but}
+use Rattle.tx_bridge.specs.CarryingParts.{and_part, parts_behind, parts_but}
 use Rattle.tx_bridge.specs.InPlace.{IsOneChanged}
 use Rattle.tx_bridge.specs.Names.{CarryParts, CarryStrays, CarryWithin, PartMoves, Sources, StraysBeside}
-use Rattle.tx_bridge.specs.PartMoves.{Move, NoneAbove, is_vacant, unit_above, move_to, moves_below, unit_moves}
+use Rattle.tx_bridge.specs.PartMoves.{Move, is_vacant, unit_above, move_to, moves_below, unit_moves}
 use Rattle.tx_bridge.specs.PartMoves.{moves_from, part_moves, arrived, parts_now, all_parts_now}
 use Rattle.tx_bridge.specs.PartsKept.{KeptParts}
 use Rattle.tx_bridge.specs.Strays.{Stray, AreOutside, kept_strays, is_beside, path_at, strays_beside}

@@ -1,6 +1,6 @@
 -- What is laid out of parts through an edit, where something is of each part that is kept, or of none.
-use Rattle.std.proofs.Common.{◌≡◌, ℕ, ◌+◌, List, [], ◌∷◌, length, map, Option, Some, None, refl, ap, ap₂, sym}
-use Rattle.std.proofs.Common.{subst, ◌∙◌, ◌⊎◌, inl, inr}
+use Rattle.std.proofs.Common.{◌≡◌, ℕ, List, [], ◌∷◌, length, map, Option, Some, refl, ap, ap₂, sym}
+use Rattle.std.proofs.Common.{subst, ◌∙◌, inl, inr}
 use Rattle.std.proofs.lemmas.List.{length-map}
 use Rattle.std.specs.List.{AllByRecursion, filter}
 use Rattle.std.specs.Option.{option_map_or}
@@ -9,14 +9,12 @@ use Rattle.tx_doc.specs.declared.buffer.Buffer.{Buffer}
 use Rattle.tx_mod.specs.declared.mods.Mod.{Mod}
 use Rattle.tx_units.specs.declared.kinds.Unit.{Unit as DocUnit}
 use Rattle.tx_units.specs.Units.{units}
-use Rattle.tx_items.specs.declared.attributes.Attrs.{Attrs}
 use Rattle.tx_view_form.specs.Outcomes.{Moment, beginning, behind}
 use Rattle.tx_view_form.specs.Started.{attributes_of}
 use Rattle.tx_part_layout.specs.declared.laid.PlacedPart.{PlacedPart}
 use Rattle.tx_bridge.specs.Bridged.{Bridged}
 use Rattle.tx_bridge.specs.Carrying.{unit_places_after, sources_from, mods_of}
-use Rattle.tx_bridge.specs.Entries.{Entry, Kept, outcome_of, units_of}
-use Rattle.tx_bridge.specs.InPlace.{IsOneChanged}
+use Rattle.tx_bridge.specs.Entries.{Kept, outcome_of, units_of}
 use Rattle.tx_bridge.specs.Names.{CarryParts, CarryStrays, PartMoves, Sources}
 use Rattle.tx_bridge.specs.PartMoves.{NoneAbove, part_moves}
 use Rattle.tx_bridge.specs.PartsKept.{KeptParts, part_paths}
@@ -28,8 +26,8 @@ use Rattle.tx_unit_layout.specs.declared.shown.Shown.{Shown}
 use Rattle.tx_view.specs.Exchanged.{left_but}
 use Rattle.tx_view.specs.Laid.{AreLaid, AreLaidOutside, AreUnitsBut, IsWay, laid_in, laid_parts_in, view_stores_in}
 use Rattle.tx_view.specs.Laid.{LaidGoes}
-use Rattle.tx_view.specs.LaidMoves.{laid_moves, laid_arrived, all_laid_now, laid_at_paths, AreAllPartsLaid}
-use Rattle.tx_view.specs.LaidMoves.{AreNoPartsLaid, AreAllOrNoneLaid}
+use Rattle.tx_view.specs.LaidMoves.{laid_moves, laid_arrived, all_laid_now, laid_at_paths}
+use Rattle.tx_view.specs.LaidMoves.{AreAllOrNoneLaid}
 use Rattle.tx_view.specs.Names.{Fresh}
 use Rattle.tx_view.specs.Stores.{ViewStores, attributes_from}
 use Rattle.tx_view.specs.declared.carrying.Target.{Target}

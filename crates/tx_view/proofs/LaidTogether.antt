@@ -1,9 +1,9 @@
 -- What is laid out of parts moves as they do, where something is of each, or of none.
 use Rattle.std.proofs.Common.{◌≡◌, ℕ, zero, suc, ◌+◌, ◌<◌, Bool, true, false, List, [], ◌∷◌, ◌++◌, length, map, Option}
-use Rattle.std.proofs.Common.{Some, None, refl, ap, sym, subst, ◌∙◌, ◌⊎◌, inl, inr, arith}
+use Rattle.std.proofs.Common.{Some, None, refl, ap, sym, ◌∙◌, inl, inr, arith}
 use Rattle.std.proofs.lemmas.List.{map-append}
 use Rattle.std.proofs.lemmas.Option.{same_Some}
-use Rattle.std.specs.List.{AllByRecursion, cons_option, filter_map, list_all}
+use Rattle.std.specs.List.{AllByRecursion, cons_option, filter_map}
 use Rattle.std.specs.Option.{option_map, option_map_or}
 use Rattle.std.specs.Prelude.{◌==◌, ◌&&◌, if◌then◌else◌, is_some, slice_get, option_and_then}
 use Rattle.tx_tree.specs.WideTree.{WideTree}
@@ -13,7 +13,7 @@ use Rattle.tx_units.specs.declared.kinds.Unit.{Unit as DocUnit}
 use Rattle.tx_parts.specs.Parts.{Stored}
 use Rattle.tx_bridge.specs.Carrying.{through}
 use Rattle.tx_bridge.specs.PartMoves.{Move, is_vacant, is_outside, unit_above, move_to, moves_below, unit_moves}
-use Rattle.tx_bridge.specs.PartMoves.{moves_from, moves_aside, part_moves, arrived, parts_now, all_parts_now}
+use Rattle.tx_bridge.specs.PartMoves.{moves_from, moves_aside, part_moves, arrived, all_parts_now}
 use Rattle.tx_bridge.specs.PartsKept.{KeptParts, part_paths}
 use Rattle.tx_bridge.proofs.Taking.{heads}
 use Rattle.tx_unit_layout.specs.LaidAts.{LaidAt}

@@ -1,8 +1,8 @@
 -- A paragraph inside which an edit is, and which is found to change alone, and what stays of parts through an edit.
 -- That it isn't found says nothing.
-use Rattle.std.specs.Prelude.{◌≡◌, ℕ, zero, suc, ◌+◌, Bool, true, false, ◌==◌, if◌then◌else◌, List, [], ◌∷◌, ◌++◌}
-use Rattle.std.specs.Prelude.{length, Option, Some, None, is_some, option_and_then, slice_get}
-use Rattle.std.specs.List.{filter, filter_map, list_all}
+use Rattle.std.specs.Prelude.{◌≡◌, ℕ, zero, suc, ◌+◌, Bool, true, false, if◌then◌else◌, List, [], ◌∷◌}
+use Rattle.std.specs.Prelude.{length, Option, Some, None, option_and_then}
+use Rattle.std.specs.List.{filter, filter_map}
 use Rattle.std.specs.Option.{option_map, option_map_or}
 use Rattle.tx_tree.specs.Paths.{subtree}
 use Rattle.tx_tree.specs.WideTree.{WideTree}
@@ -12,7 +12,6 @@ use Rattle.tx_units.specs.Inside.{leaves_others}
 use Rattle.tx_mod.specs.Followed.{changed_by_all}
 use Rattle.tx_bridge.specs.CarryingParts.{carried_below}
 use Rattle.tx_bridge.specs.InPlace.{is_changed, IsOneChanged}
-use Rattle.tx_bridge.specs.PartMoves.{Move}
 use Rattle.tx_bridge.specs.Strays.{is_beside, path_at}
 use Rattle.tx_bridge.specs.PartsKept.{KeptParts}
 use Rattle.tx_bridge.specs.Names.{CarryParts, CarryStrays, CarryWithin, PartMoves}
