@@ -251,6 +251,7 @@ impl View {
             + (cost_of mods.now + made (with_tree self.old.buffers buffer tree.now)) }
     {
         let nothing = nothing_paged(alloc)?;
+        let _was = self.bridges.outcome(0);
         let (after, target) = carried(
             alloc,
             &mut self.bridges,

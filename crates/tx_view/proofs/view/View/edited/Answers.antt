@@ -1,4 +1,4 @@
-use Rattle.std.proofs.Common.{◌∙◌, List, [], length, false, ap, refl, sym, subst, arith}
+use Rattle.std.proofs.Common.{◌≡◌, ◌∙◌, List, [], length, false, ap, refl, sym, subst, arith}
 use Rattle.std.specs.Prelude.{map}
 use Rattle.tx_doc.specs.Buffers.{document_of, tree_of, with_tree}
 use Rattle.tx_doc.specs.declared.buffer.Buffer.{Buffer}
@@ -55,7 +55,7 @@ invariant_of-self-2 g c =
     let go = they_go c.self.inside.width c.args.buffer c.args.mods.now (tree_of bs c.args.buffer) kept
     c.self.inside.bridges.parts c.self.inside.bridges.strays olds (map laid_at c.self.inside.strays) (units after)
     c.self.invariant.laid c.self.invariant.alike c.in_ok-after.target ss c.in_ok-after.ensures.way
-    c.outcome-kept.ensures.strays_hold.outside in
+    c.outcome-was.ensures.strays_hold.outside in
     let sources : ss ≡ Sources c.args.buffer c.args.mods.now (tree_of bs c.args.buffer) (units_of kept) (units after) =
     c.in_ok-after.ensures.sources in
     let alike = alike_then c.self.inside.width c.args.buffer c.args.mods.now (tree_of bs c.args.buffer) kept
@@ -122,7 +122,7 @@ returns-clause-ok g c =
     let go = they_go c.self.inside.width c.args.buffer c.args.mods.now (tree_of bs c.args.buffer) kept
     c.self.inside.bridges.parts c.self.inside.bridges.strays olds (map laid_at c.self.inside.strays) (units after)
     c.self.invariant.laid c.self.invariant.alike c.in_ok-after.target ss c.in_ok-after.ensures.way
-    c.outcome-kept.ensures.strays_hold.outside in
+    c.outcome-was.ensures.strays_hold.outside in
     let v : Inside = record {
       buffers = c.in_ok-after.after;
       width = c.self.inside.width;
