@@ -165,6 +165,7 @@ impl Bridges {
     /// What the spare has kept of the same units, of which nothing more is known, serves where what is kept doesn't,
     /// and costs nothing: of a paragraph of the body part by part, and of another unit the whole. Flags don't count it:
     /// they say whether what was kept fits. The spare stays as it is.
+    #[tactic(auto, unfolding(crate::specs::Names::EndFrom))]
     pub fn refresh_from<L: Ledger>(
         &mut self,
         alloc: Global,
@@ -210,6 +211,7 @@ impl Bridges {
     /// spare, and one for each node of what the layers' names are set to by these trees, whatever is kept of the whole.
     /// So another refresh with this opener, at which names have the same, is charged nothing for layers. A paragraph is
     /// reached also where its parts aren't those that were kept, as after a refresh with another opener.
+    #[tactic(auto, unfolding(crate::specs::Names::EndFrom))]
     pub fn refresh_with<O: Opener, L: Ledger>(
         &mut self,
         alloc: Global,
@@ -257,7 +259,7 @@ impl Bridges {
     }
 
     // The same. Where it isn't `shelled`, the opener opens nothing.
-    #[tactic(auto, unfolding(crate::specs::Names::FreshTracesFrom, crate::specs::Names::FreshPartsBy, crate::specs::Names::EndFrom,))]
+    #[tactic(auto, unfolding(crate::specs::Names::FreshTracesFrom, crate::specs::Names::FreshPartsBy))]
     fn refresh_by<O: Opener, L: Ledger>(
         &mut self,
         alloc: Global,
@@ -297,7 +299,8 @@ impl Bridges {
             × (drop n self.new.layers ≡ drop n self.old.layers)) }
         ensures strays { OnOk result (self.new.strays ≡ []) }
         ensures strays_stay { OnErr result (self.new.strays ≡ self.old.strays) }
-        ensures end { OnOk result (self.new.end ≡ EndFrom start.now self.old.kept) }
+        ensures end { OnOk result
+            (self.new.end ≡ (behind_all (beginning_with start.now) (units_of self.old.kept)).env) }
         ensures end_stays { OnErr result (self.new.end ≡ self.old.end) }
     {
         trace_laws();

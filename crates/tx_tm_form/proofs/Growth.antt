@@ -63,7 +63,7 @@ grows_append (p ∷ ps) qs g = grows_append ps qs (grow g p)
 
 -- ---- runs
 
-joint_run_assoc : (u v w : White) → joint_run (joint_run u v) w ≡ joint_run u (joint_run v w)
+pub joint_run_assoc : (u v w : White) → joint_run (joint_run u v) w ≡ joint_run u (joint_run v w)
 joint_run_assoc Spaces v w = refl
 joint_run_assoc Line Spaces w = refl
 joint_run_assoc Line Line Spaces = refl

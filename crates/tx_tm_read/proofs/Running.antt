@@ -9,7 +9,7 @@ use Rattle.tx_tm_form.specs.declared.places.Stage.{Stage}
 use Rattle.tx_tm_form.specs.declared.places.Stage.TheVariants.{Empty, Alone, Ordinary}
 use Rattle.tx_tree.specs.Labels.{is_label_byte}
 use Rattle.tx_tm_form.specs.declared.bytes.White.{White}
-use Rattle.tx_tm_form.specs.declared.bytes.White.TheVariants.{Spaces, Line, Break}
+use Rattle.tx_tm_form.specs.declared.bytes.White.TheVariants.{Spaces}
 use Rattle.tx_tm_form.specs.Bytes.{kind_of, is_plain, is_white, white_of, joint_run}
 use Rattle.tx_tm_form.specs.declared.places.TagForm.TheVariants.{Short}
 use Rattle.tx_tm_form.specs.Tokens.{head, label_end, written}
@@ -21,6 +21,7 @@ use Rattle.tx_tm_form.specs.Machine.{Open, reading, feed, ready, Bytewise, at, a
 use Rattle.tx_tm_form.specs.Machine.{run, Keeping, keep, begun}
 use Rattle.tx_tm_form.specs.Machine.{tree_in, start, reads}
 use Rattle.tx_tm_form.proofs.Formed.{text_text, one_byte_text}
+use Rattle.tx_tm_form.proofs.Growth.{joint_run_assoc}
 use Rattle.tx_tm_form.proofs.Words.{lexed_white, lexed_plain, token_run}
 use Rattle.tx_tm_form.proofs.Stops.{run_append}
 use Rattle.tx_tm_content.specs.Blocks.{block_at}
@@ -80,18 +81,9 @@ put_spaced (collecting t) x b = ap blocks (widen_spaced (as_block t).stage (as_b
 
 -- ---- two runs of white side by side are one
 
-joint_run_twice : (u v w : White) → joint_run (joint_run u v) w ≡ joint_run u (joint_run v w)
-joint_run_twice Spaces v w = refl
-joint_run_twice Line Spaces w = refl
-joint_run_twice Line Line Spaces = refl
-joint_run_twice Line Line Line = refl
-joint_run_twice Line Line Break = refl
-joint_run_twice Line Break w = refl
-joint_run_twice Break v w = refl
-
 longer_both : (r : Option White) (v w : White) → longer (Some (longer r v)) w ≡ longer r (joint_run v w)
 longer_both None v w = refl
-longer_both (Some u) v w = joint_run_twice u v w
+longer_both (Some u) v w = joint_run_assoc u v w
 
 gaps_widen : (s : Stage) (b : Block) (v w : White) → b.stage ≡ s
     → widen (with_white s b v) (gap w) ≡ with_white s b (joint_run v w)
