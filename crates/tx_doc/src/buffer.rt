@@ -69,6 +69,20 @@ pub fn number_of(buffers: &[Buffer], name: &[u8]) -> Option<usize>
         .position(|buffer| buffer.name.bytes() == name)
 }
 
+/// The same buffers in a list of their own: names are copied, and trees are shared.
+pub fn share_buffers(alloc: Global, buffers: &[Buffer]) -> Result<Vec<Buffer>, Memory>
+    ensures { IfOk result (λ all. all.items ≡ buffers.now) }
+{
+    let mut all = Vec::with_capacity(alloc, buffers.len())?;
+    for buffer in buffers {
+        all.push(Buffer {
+            name: buffer.name.copy(alloc)?,
+            tree: buffer.tree.share()?,
+        })?;
+    }
+    Ok(all)
+}
+
 /// A law: every buffer's tree is well formed, and within the limits.
 pub fn formed_law(buffers: &[Buffer])
     ensures { AreFormed buffers.now }

@@ -11,5 +11,5 @@ mod buffer;
 mod forms;
 
 pub use bodies::{body, is_labelled};
-pub use buffer::{Buffer, Name, formed_law, number_of};
+pub use buffer::{Buffer, Name, formed_law, number_of, share_buffers};
 pub use forms::{Form, form_of};

@@ -23,13 +23,12 @@ ghost use Rattle.tx_view.specs.Laid.{ArePutBy, left_with, StayBut, IsLeft, IsWay
 ghost use Rattle.tx_view.specs.Laid.{WasShown, IsFormer, AreLaid, LaidGoes};
 
 use crate::arriving::put_either;
-use crate::sharing::shared;
 use std::alloc::Global;
 use std::mem;
 use std::sync::ledger::Ledger;
 use tx_base::{Memory, Steps};
 use tx_bridge::{Bridges, in_place_law, is_silent, unit_list_laws};
-use tx_doc::Buffer;
+use tx_doc::{Buffer, share_buffers};
 use tx_items::Attrs;
 use tx_mod::Mod;
 use tx_part_layout::LineList;
@@ -48,7 +47,7 @@ fn with_tree(
     requires { buffer < length buffers.now }
     ensures { IfOk result (λ bs. bs.items ≡ with_tree buffers.now buffer tree.now) }
 {
-    let mut all = shared(alloc, buffers)?;
+    let mut all = share_buffers(alloc, buffers)?;
     all[buffer as usize].tree = tree.share()?;
     Ok(all)
 }

@@ -17,7 +17,6 @@ mod paging;
 mod places;
 mod refreshing;
 mod searching;
-mod sharing;
 mod spots;
 mod starts;
 mod stops;

@@ -37,7 +37,6 @@ use crate::paging::{Pagination, all_paged, nothing_paged};
 use crate::places::{base_of, place_in};
 use crate::refreshing::lay_out;
 use crate::searching::{error_count, error_in, row_count, row_in};
-use crate::sharing::shared;
 use crate::stops::stops_of;
 use std::alloc::Global;
 use std::marker::Model;
@@ -45,7 +44,7 @@ use std::mem;
 use std::sync::ledger::Ledger;
 use tx_base::{Memory, Steps};
 use tx_bridge::{Bridges, unit_list_laws};
-use tx_doc::Buffer;
+use tx_doc::{Buffer, share_buffers};
 use tx_items::{Drawn, ErrorAt};
 use tx_layout::Line;
 use tx_lines::Cut;
@@ -206,7 +205,7 @@ impl View {
         let made = units(alloc, buffers, steps)?;
         let hidden = blanks(alloc, &made)?;
         Ok(View {
-            buffers: shared(alloc, buffers)?,
+            buffers: share_buffers(alloc, buffers)?,
             width,
             height,
             fresh: false,

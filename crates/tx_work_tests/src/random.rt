@@ -1,5 +1,5 @@
 // Random sessions, beside a plain reading of what they keep, and beside sessions that are started anew.
-ghost use Rattle.std.specs.Prelude.{◌≡◌, ◌≤◌, length, IfOk, IfSome};
+ghost use Rattle.std.specs.Prelude.{◌≡◌, ◌≤◌, length, IfSome};
 ghost use Rattle.tx_doc.specs.Buffers.{NamesDiffer};
 
 use crate::beside::done;
@@ -12,10 +12,10 @@ use std::alloc::Global;
 use std::marker::Brand;
 use std::sync::ledger::{Blank, Ledger};
 use std::test::Fail;
-use tx_base::{Memory, Steps};
+use tx_base::Steps;
 use tx_cmd::{Command, parse};
 use tx_dice::Dice;
-use tx_doc::Buffer;
+use tx_doc::{Buffer, share_buffers};
 use tx_outside::MemSink;
 use tx_samples::buffer_of;
 use tx_session::Session;
@@ -54,20 +54,6 @@ fn buffers_of<L: Ledger>(alloc: Global, play: &Play, steps: &mut Steps<L>) -> Op
     vec![in alloc; document, style].ok()
 }
 
-// Buffers with the same names and trees.
-fn shared(alloc: Global, buffers: &[Buffer]) -> Result<Vec<Buffer>, Memory>
-    ensures { IfOk result (λ all. all.items ≡ buffers.now) }
-{
-    let mut all = Vec::with_capacity(alloc, buffers.len())?;
-    for buffer in buffers {
-        all.push(Buffer {
-            name: buffer.name.copy(alloc)?,
-            tree: buffer.tree.share()?,
-        })?;
-    }
-    Ok(all)
-}
-
 fn session_of<L: Ledger>(alloc: Global, play: &Play, steps: &mut Steps<L>) -> Option<Session> {
     let buffers = buffers_of(alloc, play, steps)?;
     Session::start(alloc, buffers, WIDTH, HEIGHT, steps).ok()
@@ -75,7 +61,7 @@ fn session_of<L: Ledger>(alloc: Global, play: &Play, steps: &mut Steps<L>) -> Op
 
 // The session that is started on the state's buffers.
 fn anew<L: Ledger>(alloc: Global, state: &EditorState, steps: &mut Steps<L>) -> Option<Session> {
-    let buffers = shared(alloc, state.buffers()).ok()?;
+    let buffers = share_buffers(alloc, state.buffers()).ok()?;
     Session::start(alloc, buffers, WIDTH, HEIGHT, steps).ok()
 }
 

@@ -1,5 +1,5 @@
 use Rattle.std.proofs.Common.{◌≡◌, take}
-use Rattle.tx_view.proofs.sharing.shared.Given as goal
+use Rattle.tx_doc.proofs.buffer.share_buffers.Given as goal
 
 abbrev pub invariant-loop-buffer : goal.invariant-loop-buffer
 invariant-loop-buffer l = l.all.items ≡ take l.buffer-index l.buffers
