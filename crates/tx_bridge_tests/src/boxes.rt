@@ -7,7 +7,7 @@ ghost use Rattle.tx_bridge_tests.specs.Boxes.{box_shell, is_box, opens_boxes};
 ghost use Rattle.tx_bridge_tests.specs.BoxShells.{boxes_open};
 
 use std::alloc::Global;
-use std::sync::ledger::Ledger;
+use std::sync::ledger::{Blank, Ledger};
 use tx_base::{Memory, Steps};
 use tx_tree::{Label, Tree, text_of};
 use tx_walk::{Layer, Opener, Shell, same_trees};
@@ -156,4 +156,44 @@ impl Opener for Boxes {
     }
 
     ghost sound = { λ boxes. boxes_open };
+}
+
+// A row of a table about what is opened.
+pub(crate) trait BoxRow {
+    // Whether what the row says is so, where this opener opens boxes. None for want of memory.
+    fn is_told<L: Ledger>(
+        &self,
+        alloc: Global,
+        opener: &Boxes,
+        steps: &mut Steps<L>,
+    ) -> Option<bool>;
+}
+
+fn untold<L: Ledger, R: BoxRow>(
+    alloc: Global,
+    rows: &[R],
+    opener: &Boxes,
+    steps: &mut Steps<L>,
+) -> Option<usize> {
+    for (i, row) in rows.iter().enumerate() {
+        if row.is_told(alloc, opener, steps) != Some(true) {
+            return Some(i);
+        }
+    }
+    None
+}
+
+// The number of the first row that doesn't hold.
+pub(crate) fn first_untold<L: Ledger, R: BoxRow>(
+    alloc: Global,
+    rows: &[R],
+    blank: Blank,
+) -> Result<Option<usize>, Memory>
+    requires name { blank.name ≡ L.name }
+    requires parts { blank.parts ≡ L.parts }
+    requires whole { blank.parts ≡ 1 }
+{
+    let mut steps = Steps::<L>::new(blank);
+    let opener = Boxes::new(alloc, &mut steps)?;
+    Ok(untold(alloc, rows, &opener, &mut steps))
 }

@@ -8,7 +8,6 @@ ghost use Rattle.tx_units.specs.Units.{units};
 
 use crate::buffers::{BASE, are_from_nothing, behind, buffers_of, from_nothing, modifications};
 use crate::outcomes::alike;
-use crate::rows::{Row, first_untrue};
 use crate::series::{Edit, Series, change};
 use std::alloc::Global;
 use std::marker::Brand;
@@ -17,6 +16,7 @@ use tx_base::Steps;
 use tx_bridge::{Bridges, unit_list_laws};
 use tx_doc::Buffer;
 use tx_mod::Mod;
+use tx_samples::{Row, first_untrue};
 use tx_tree::Tree;
 
 // The number of a buffer, an edit of it, and a mark for each unit behind those of the base style: a cross where the

@@ -3,9 +3,8 @@ ghost use Rattle.std.specs.Prelude.{◌≡◌, ◌≤◌, [], length, OnSome};
 ghost use Rattle.tx_bridge.specs.Entries.{units_of};
 ghost use Rattle.tx_units.specs.Units.{units};
 
-use crate::boxes::Boxes;
+use crate::boxes::{BoxRow, Boxes, first_untold};
 use crate::buffers::buffers_of;
-use crate::rows::{Row, first_untrue};
 use crate::starts::{Start, kept_from, writes_of};
 use crate::ways::Way;
 use std::alloc::Global;
@@ -355,26 +354,20 @@ fn is_led_from<L: Ledger>(
     is_led(alloc, &mut bridges, buffers, row, opener, steps)
 }
 
-// Whether so it is of the row's buffers.
-fn is_told<L: Ledger>(
-    alloc: Global,
-    row: &EndRow,
-    opener: &Boxes,
-    steps: &mut Steps<L>,
-) -> Option<bool> {
-    let mut buffers = buffers_of(alloc, row.buffers, steps)?;
-    is_led_from(alloc, &mut buffers, row, opener, steps)
-}
-
-impl Row for EndRow {
-    fn holds<L: Ledger>(&self, alloc: Global, steps: &mut Steps<L>) -> Option<bool> {
-        let opener = Boxes::new(alloc, steps).ok()?;
-        is_told(alloc, self, &opener, steps)
+impl BoxRow for EndRow {
+    fn is_told<L: Ledger>(
+        &self,
+        alloc: Global,
+        opener: &Boxes,
+        steps: &mut Steps<L>,
+    ) -> Option<bool> {
+        let mut buffers = buffers_of(alloc, self.buffers, steps)?;
+        is_led_from(alloc, &mut buffers, self, opener, steps)
     }
 }
 
 #[test]
 fn the_end_has_what_the_last_refresh_left(rt: HostRuntime) {
-    let wrong = first_untrue::<Brand, _>(rt.alloc(), ENDS, Blank::new(1));
-    assert_eq!(rt; wrong, None);
+    let wrong = first_untold::<Brand, _>(rt.alloc(), ENDS, Blank::new(1));
+    assert_eq!(rt; wrong, Ok(None));
 }

@@ -4,13 +4,13 @@ ghost use Rattle.tx_mod.specs.Mods.{path_of};
 ghost use Rattle.tx_bridge.specs.InPlace.{begins_path, are_within};
 
 use crate::buffers::modifications;
-use crate::rows::{Row, first_untrue};
 use std::alloc::Global;
 use std::marker::Brand;
 use std::sync::ledger::{Blank, Ledger};
 use tx_base::Steps;
 use tx_bridge::all_keep_place;
 use tx_mod::Mod;
+use tx_samples::{Row, first_untrue};
 use tx_tree::Path;
 
 // Modifications, `;` between them, a path that all of them are below, one behind it, and whether what stands there is

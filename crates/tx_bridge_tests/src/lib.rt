@@ -24,8 +24,6 @@ mod outcomes;
 #[cfg(test)]
 mod parts;
 #[cfg(test)]
-mod rows;
-#[cfg(test)]
 mod series;
 #[cfg(test)]
 mod shell_edits;

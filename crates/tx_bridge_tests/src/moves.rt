@@ -3,7 +3,6 @@ ghost use Rattle.std.specs.Prelude.{◌≡◌, ◌≤◌, [], length, OnSome};
 ghost use Rattle.tx_bridge.specs.Entries.{units_of};
 
 use crate::buffers::{BASE, are_from_nothing};
-use crate::rows::first_untrue;
 use crate::series::{Edit, Series, change};
 use std::alloc::Global;
 use std::fmt::Write;
@@ -12,6 +11,7 @@ use std::sync::ledger::{Blank, Ledger};
 use tx_base::Steps;
 use tx_bridge::Bridges;
 use tx_doc::Buffer;
+use tx_samples::first_untrue;
 use tx_walk::Part;
 
 // One or two modifications of the document, `;` between them, and what the refresh behind them leaves: of each

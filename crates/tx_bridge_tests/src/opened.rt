@@ -6,7 +6,6 @@ ghost use Rattle.tx_bridge.specs.Entries.{units_of};
 use crate::boxes::Boxes;
 use crate::buffers::{BASE, buffers_of};
 use crate::moves::push_parts;
-use crate::rows::{Row, first_untrue};
 use crate::starts::{Start, are_from_start, writes_of};
 use std::alloc::Global;
 use std::fmt::Write;
@@ -15,6 +14,7 @@ use std::sync::ledger::{Blank, Ledger};
 use tx_base::Steps;
 use tx_bridge::{Bridges, unit_list_laws};
 use tx_doc::Buffer;
+use tx_samples::{Row, first_untrue};
 use tx_units::units;
 
 // A refresh: names and texts from which it starts, `;` between them, and whether boxes are opened.

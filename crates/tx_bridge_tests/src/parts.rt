@@ -3,12 +3,12 @@ ghost use Rattle.std.specs.Prelude.{◌≡◌};
 
 use crate::buffers::{BASE, buffers_of};
 use crate::edits::edited_in_place;
-use crate::rows::{Row, first_untrue};
 use std::alloc::Global;
 use std::marker::Brand;
 use std::sync::ledger::{Blank, Ledger};
 use tx_base::Steps;
 use tx_bridge::Bridges;
+use tx_samples::{Row, first_untrue};
 use tx_walk::Part;
 
 // A buffer, an edit inside one paragraph, and for each paragraph, a `/` between them, a mark for each part: a cross

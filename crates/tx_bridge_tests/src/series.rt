@@ -6,13 +6,13 @@ ghost use Rattle.tx_bridge.specs.Strays.{StandAside};
 ghost use Rattle.tx_units.specs.Units.{units};
 
 use crate::buffers::{behind, buffers_of, from_nothing, modifications};
-use crate::rows::Row;
 use std::alloc::Global;
 use std::sync::ledger::Ledger;
 use tx_base::Steps;
 use tx_bridge::{Bridges, unit_list_laws};
 use tx_doc::Buffer;
 use tx_mod::Mod;
+use tx_samples::Row;
 use tx_units::units;
 
 // An edit, and what it is to do to what is kept.

@@ -3,10 +3,9 @@ ghost use Rattle.std.specs.Prelude.{◌≡◌, ◌≤◌, [], length, IfSome};
 ghost use Rattle.tx_bridge.specs.Entries.{units_of};
 ghost use Rattle.tx_units.specs.Units.{units};
 
-use crate::boxes::Boxes;
+use crate::boxes::{BoxRow, Boxes, first_untold};
 use crate::buffers::buffers_of;
 use crate::opened::{Refresh, document_of, kept_by, refreshed, units_told};
-use crate::rows::{Row, first_untrue};
 use crate::starts::{Start, are_from_start};
 use crate::ways::Way;
 use std::alloc::Global;
@@ -183,26 +182,20 @@ fn buffers_with<L: Ledger>(
     buffers_of(alloc, words.as_str(), steps)
 }
 
-// Whether so it is of the row's buffers.
-fn is_told<L: Ledger>(
-    alloc: Global,
-    row: &ShellEditRow,
-    opener: &Boxes,
-    steps: &mut Steps<L>,
-) -> Option<bool> {
-    let mut buffers = buffers_with(alloc, row.0, steps)?;
-    is_led_from(alloc, &mut buffers, row, opener, steps)
-}
-
-impl Row for ShellEditRow {
-    fn holds<L: Ledger>(&self, alloc: Global, steps: &mut Steps<L>) -> Option<bool> {
-        let opener = Boxes::new(alloc, steps).ok()?;
-        is_told(alloc, self, &opener, steps)
+impl BoxRow for ShellEditRow {
+    fn is_told<L: Ledger>(
+        &self,
+        alloc: Global,
+        opener: &Boxes,
+        steps: &mut Steps<L>,
+    ) -> Option<bool> {
+        let mut buffers = buffers_with(alloc, self.0, steps)?;
+        is_led_from(alloc, &mut buffers, self, opener, steps)
     }
 }
 
 #[test]
 fn layers_stay_known_through_edits(rt: HostRuntime) {
-    let wrong = first_untrue::<Brand, _>(rt.alloc(), SHELL_EDITS, Blank::new(1));
-    assert_eq!(rt; wrong, None);
+    let wrong = first_untold::<Brand, _>(rt.alloc(), SHELL_EDITS, Blank::new(1));
+    assert_eq!(rt; wrong, Ok(None));
 }

@@ -5,9 +5,8 @@ ghost use Rattle.std.specs.Str.{bytes_eq};
 ghost use Rattle.tx_walk.specs.Held.{IsSound};
 ghost use Rattle.tx_walk.specs.Walked.{IsTidy, kept_in, paths_of};
 
-use crate::boxes::Boxes;
+use crate::boxes::{BoxRow, Boxes, first_untold};
 use crate::outcomes::{evaluated, same};
-use crate::rows::{Row, first_untrue};
 use std::alloc::Global;
 use std::marker::Brand;
 use std::sync::ledger::{Blank, Ledger};
@@ -410,21 +409,15 @@ fn is_walked<L: Ledger>(
     is_charged(alloc, row, t, opener, &walked, steps)
 }
 
-// Whether it is so of the row's tree.
-fn is_told<L: Ledger>(
-    alloc: Global,
-    row: &ShellRow,
-    opener: &Boxes,
-    steps: &mut Steps<L>,
-) -> Option<bool> {
-    let tree = tree_of(alloc, row.tree, steps)?;
-    is_walked(alloc, row, &tree, opener, steps)
-}
-
-impl Row for ShellRow {
-    fn holds<L: Ledger>(&self, alloc: Global, steps: &mut Steps<L>) -> Option<bool> {
-        let opener = Boxes::new(alloc, steps).ok()?;
-        is_told(alloc, self, &opener, steps)
+impl BoxRow for ShellRow {
+    fn is_told<L: Ledger>(
+        &self,
+        alloc: Global,
+        opener: &Boxes,
+        steps: &mut Steps<L>,
+    ) -> Option<bool> {
+        let tree = tree_of(alloc, self.tree, steps)?;
+        is_walked(alloc, self, &tree, opener, steps)
     }
 }
 
@@ -506,32 +499,26 @@ fn is_walked_twice<L: Ledger>(
     is_lent(alloc, row, t, opener, &walked, steps)
 }
 
-// Whether it is so of the row's tree.
-fn is_told_twice<L: Ledger>(
-    alloc: Global,
-    row: &LentRow,
-    opener: &Boxes,
-    steps: &mut Steps<L>,
-) -> Option<bool> {
-    let tree = tree_of(alloc, row.tree, steps)?;
-    is_walked_twice(alloc, row, &tree, opener, steps)
-}
-
-impl Row for LentRow {
-    fn holds<L: Ledger>(&self, alloc: Global, steps: &mut Steps<L>) -> Option<bool> {
-        let opener = Boxes::new(alloc, steps).ok()?;
-        is_told_twice(alloc, self, &opener, steps)
+impl BoxRow for LentRow {
+    fn is_told<L: Ledger>(
+        &self,
+        alloc: Global,
+        opener: &Boxes,
+        steps: &mut Steps<L>,
+    ) -> Option<bool> {
+        let tree = tree_of(alloc, self.tree, steps)?;
+        is_walked_twice(alloc, self, &tree, opener, steps)
     }
 }
 
 #[test]
 fn tags_with_shells_are_gone_into(rt: HostRuntime) {
-    let wrong = first_untrue::<Brand, _>(rt.alloc(), SHELLS, Blank::new(1));
-    assert_eq!(rt; wrong, None);
+    let wrong = first_untold::<Brand, _>(rt.alloc(), SHELLS, Blank::new(1));
+    assert_eq!(rt; wrong, Ok(None));
 }
 
 #[test]
 fn layers_that_are_kept_cost_nothing(rt: HostRuntime) {
-    let wrong = first_untrue::<Brand, _>(rt.alloc(), LENT, Blank::new(1));
-    assert_eq!(rt; wrong, None);
+    let wrong = first_untold::<Brand, _>(rt.alloc(), LENT, Blank::new(1));
+    assert_eq!(rt; wrong, Ok(None));
 }

@@ -5,7 +5,6 @@ ghost use Rattle.tx_bridge.specs.Entries.{units_of};
 
 use crate::buffers::{are_fresh, buffers_of};
 use crate::parts::are_marked;
-use crate::rows::{Row, first_untrue};
 use std::alloc::Global;
 use std::marker::Brand;
 use std::sync::ledger::{Blank, Ledger};
@@ -13,7 +12,7 @@ use tx_base::Steps;
 use tx_bridge::{Bridges, unit_list_laws};
 use tx_doc::Buffer;
 use tx_env::Writes;
-use tx_samples::tree_of;
+use tx_samples::{Row, first_untrue, tree_of};
 use tx_tree::{Text, Tree};
 use tx_units::units;
 

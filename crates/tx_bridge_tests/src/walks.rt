@@ -6,14 +6,13 @@ ghost use Rattle.tx_walk.specs.Held.{IsSound, AreSound};
 ghost use Rattle.tx_walk.specs.Walked.{IsTidy, kept_in, stores_in, paths_of};
 
 use crate::outcomes::{evaluated, same};
-use crate::rows::{Row, first_untrue};
 use std::alloc::Global;
 use std::marker::Brand;
 use std::sync::ledger::{Blank, Ledger};
 use tx_base::Steps;
 use tx_env::Env;
 use tx_exec::Outcome;
-use tx_samples::tree_of;
+use tx_samples::{Row, first_untrue, tree_of};
 use tx_tree::{Text, Tree};
 use tx_walk::{Part, Walked, kept_law, walk, walked_law};
 

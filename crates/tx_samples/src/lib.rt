@@ -1,9 +1,12 @@
-//! What tests are made from: trees and buffers in words, and numbers in replies.
+//! What tests are made from: tables of rows, trees and buffers in words, and numbers in replies.
 #![tactic(auto)]
+
+mod rows;
 
 ghost use Rattle.std.specs.Prelude.{◌≡◌, IfSome};
 ghost use Rattle.tx_scm.specs.Spelling.{Spells};
 
+pub use rows::{Row, first_untrue};
 use std::alloc::Global;
 use std::sync::ledger::Ledger;
 use tx_base::Steps;

@@ -5,18 +5,14 @@ use std::alloc::Global;
 use std::sync::ledger::{Blank, Ledger};
 use tx_base::Steps;
 
-// A row of a table.
-pub(crate) trait Row {
-    // Whether what the row says is so. None where that can't be told, as for want of memory.
+/// A row of a table.
+pub trait Row {
+    /// Whether what the row says is so. None where that can't be told, as for want of memory.
     fn holds<L: Ledger>(&self, alloc: Global, steps: &mut Steps<L>) -> Option<bool>;
 }
 
-// The number of the first row that doesn't hold.
-pub(crate) fn first_untrue<L: Ledger, R: Row>(
-    alloc: Global,
-    rows: &[R],
-    blank: Blank,
-) -> Option<usize>
+/// The number of the first row that doesn't hold, or of which it can't be told.
+pub fn first_untrue<L: Ledger, R: Row>(alloc: Global, rows: &[R], blank: Blank) -> Option<usize>
     requires name { blank.name ≡ L.name }
     requires parts { blank.parts ≡ L.parts }
     requires whole { blank.parts ≡ 1 }
