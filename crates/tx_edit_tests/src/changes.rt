@@ -1,5 +1,4 @@
 // The tables of modifications, each with values from the rules.
-ghost use Rattle.std.specs.Prelude.{◌≡◌};
 
 use crate::inverses::{Remade, is_copied, is_undone_and_redone, told_edit};
 use crate::samples::{
@@ -8,43 +7,46 @@ use crate::samples::{
 use std::alloc::Global;
 use std::marker::Brand;
 use std::sync::ledger::{Blank, Ledger};
-use std::test::Fail;
 use tx_base::Steps;
 use tx_mod::{ApplyFault, Mod, ModFault, applicable, apply, inverse};
-use tx_samples::tree_of;
+use tx_samples::{Row, first_untrue, tree_of};
 use tx_tree::{Path, Tree};
 
 // A tree, a modification of it, the changed tree, and the inverse.
-const UNDONE: &[&str] = &[
-    r#"(f "a") | assign /0 (g) | (f (g)) | assign /0 "a""#,
-    r#"(f "a") | assign / "b" | "b" | assign / (f "a")"#,
-    r#""abc" | insert / 1 "xy" | "axybc" | remove / 1 2"#,
-    r#""abc" | insert / 3 "" | "abc" | remove / 3 0"#,
-    r#""" | insert / 0 "a" | "a" | remove / 0 1"#,
-    r#""a<alpha>b" | insert / 8 "<beta>" | "a<alpha><beta>b" | remove / 8 6"#,
-    r#"(f "a" "d") | insert / 1 (tuple "b" "c") | (f "a" "b" "c" "d") | remove / 1 2"#,
-    r#"(f "a") | insert / 1 (tuple (g)) | (f "a" (g)) | remove / 1 1"#,
-    r#"(f) | insert / 0 (tuple) | (f) | remove / 0 0"#,
-    r#""abcd" | remove / 1 2 | "ad" | insert / 1 "bc""#,
-    r#""abcd" | remove / 4 0 | "abcd" | insert / 4 """#,
-    r#""a<alpha>b" | remove / 1 7 | "ab" | insert / 1 "<alpha>""#,
-    r#"(f "a" "b" "c") | remove / 1 2 | (f "a") | insert / 1 (tuple "b" "c")"#,
-    r#"(f "a") | remove / 1 0 | (f "a") | insert / 1 (tuple)"#,
-    r#"(document "hello") | split / 0 2 | (document "he" "llo") | join / 0"#,
-    r#"(f "ab") | split / 0 0 | (f "" "ab") | join / 0"#,
-    r#"(f "ab") | split / 0 2 | (f "ab" "") | join / 0"#,
-    r#"(f "x" (g "a" "b") "y") | split / 1 1 | (f "x" (g "a") (g "b") "y") | join / 1"#,
-    r#"(f (g)) | split / 0 0 | (f (g) (g)) | join / 0"#,
-    r#"(f "a" "bc" "d") | join / 0 | (f "abc" "d") | split / 0 1"#,
-    r#"(f (g "a" "b") (g "c")) | join / 0 | (f (g "a" "b" "c")) | split / 0 2"#,
-    r#"(f "x" (g) (g "c") "y") | join / 1 | (f "x" (g "c") "y") | split / 1 0"#,
-    r#"(f (g "a")) | assign-node /0 h | (f (h "a")) | assign-node /0 g"#,
-    r#"(document "a") | insert-node /0 0 (em) | (document (em "a")) | remove-node /0 0"#,
-    r#"(f "a") | insert-node / 1 (g "x" "y") | (g "x" (f "a") "y") | remove-node / 1"#,
-    r#"(document (f "a" "b" "c")) | remove-node /0 1 | (document "b") | insert-node /0 1 (f "a" "c")"#,
-    r#"(f (g)) | remove-node / 0 | (g) | insert-node / 0 (f)"#,
-    r#"(document "ab") | insert /0 1 "xy" | (document "axyb") | remove /0 1 2"#,
-    r#"(document "a" "b") | remove / 0 1 | (document "b") | insert / 0 (tuple "a")"#,
+struct UndoneRow(&'static str);
+
+const UNDONE: &[UndoneRow] = &[
+    UndoneRow(r#"(f "a") | assign /0 (g) | (f (g)) | assign /0 "a""#),
+    UndoneRow(r#"(f "a") | assign / "b" | "b" | assign / (f "a")"#),
+    UndoneRow(r#""abc" | insert / 1 "xy" | "axybc" | remove / 1 2"#),
+    UndoneRow(r#""abc" | insert / 3 "" | "abc" | remove / 3 0"#),
+    UndoneRow(r#""" | insert / 0 "a" | "a" | remove / 0 1"#),
+    UndoneRow(r#""a<alpha>b" | insert / 8 "<beta>" | "a<alpha><beta>b" | remove / 8 6"#),
+    UndoneRow(r#"(f "a" "d") | insert / 1 (tuple "b" "c") | (f "a" "b" "c" "d") | remove / 1 2"#),
+    UndoneRow(r#"(f "a") | insert / 1 (tuple (g)) | (f "a" (g)) | remove / 1 1"#),
+    UndoneRow(r#"(f) | insert / 0 (tuple) | (f) | remove / 0 0"#),
+    UndoneRow(r#""abcd" | remove / 1 2 | "ad" | insert / 1 "bc""#),
+    UndoneRow(r#""abcd" | remove / 4 0 | "abcd" | insert / 4 """#),
+    UndoneRow(r#""a<alpha>b" | remove / 1 7 | "ab" | insert / 1 "<alpha>""#),
+    UndoneRow(r#"(f "a" "b" "c") | remove / 1 2 | (f "a") | insert / 1 (tuple "b" "c")"#),
+    UndoneRow(r#"(f "a") | remove / 1 0 | (f "a") | insert / 1 (tuple)"#),
+    UndoneRow(r#"(document "hello") | split / 0 2 | (document "he" "llo") | join / 0"#),
+    UndoneRow(r#"(f "ab") | split / 0 0 | (f "" "ab") | join / 0"#),
+    UndoneRow(r#"(f "ab") | split / 0 2 | (f "ab" "") | join / 0"#),
+    UndoneRow(r#"(f "x" (g "a" "b") "y") | split / 1 1 | (f "x" (g "a") (g "b") "y") | join / 1"#),
+    UndoneRow(r#"(f (g)) | split / 0 0 | (f (g) (g)) | join / 0"#),
+    UndoneRow(r#"(f "a" "bc" "d") | join / 0 | (f "abc" "d") | split / 0 1"#),
+    UndoneRow(r#"(f (g "a" "b") (g "c")) | join / 0 | (f (g "a" "b" "c")) | split / 0 2"#),
+    UndoneRow(r#"(f "x" (g) (g "c") "y") | join / 1 | (f "x" (g "c") "y") | split / 1 0"#),
+    UndoneRow(r#"(f (g "a")) | assign-node /0 h | (f (h "a")) | assign-node /0 g"#),
+    UndoneRow(r#"(document "a") | insert-node /0 0 (em) | (document (em "a")) | remove-node /0 0"#),
+    UndoneRow(r#"(f "a") | insert-node / 1 (g "x" "y") | (g "x" (f "a") "y") | remove-node / 1"#),
+    UndoneRow(
+        r#"(document (f "a" "b" "c")) | remove-node /0 1 | (document "b") | insert-node /0 1 (f "a" "c")"#,
+    ),
+    UndoneRow(r#"(f (g)) | remove-node / 0 | (g) | insert-node / 0 (f)"#),
+    UndoneRow(r#"(document "ab") | insert /0 1 "xy" | (document "axyb") | remove /0 1 2"#),
+    UndoneRow(r#"(document "a" "b") | remove / 0 1 | (document "b") | insert / 0 (tuple "a")"#),
 ];
 
 // The words tell this modification.
@@ -69,93 +71,84 @@ fn is_remade<L: Ledger>(
     Some(redone && copied && changed && is_change(alloc, undo, &edit.inverse, steps))
 }
 
-fn is_undone<L: Ledger>(alloc: Global, row: &str, steps: &mut Steps<L>) -> Option<bool> {
-    let (before, rest) = row.split_once(" | ")?;
-    let (words, rest) = rest.split_once(" | ")?;
-    let (after, undo) = rest.split_once(" | ")?;
-    let edit = told_edit(alloc, before, words, steps)?;
-    is_remade(alloc, &edit, after, undo, steps)
-}
-
-fn first_wrong_inverse<L: Ledger>(alloc: Global, rows: &[&str], blank: Blank) -> Option<usize>
-    requires name { blank.name ≡ L.name }
-    requires parts { blank.parts ≡ L.parts }
-    requires whole { blank.parts ≡ 1 }
-{
-    let mut steps = Steps::<L>::new(blank);
-    for (number, row) in rows.iter().enumerate() {
-        if is_undone(alloc, row, &mut steps) != Some(true) {
-            return Some(number);
-        }
+impl Row for UndoneRow {
+    fn holds<L: Ledger>(&self, alloc: Global, steps: &mut Steps<L>) -> Option<bool> {
+        let (before, rest) = self.0.split_once(" | ")?;
+        let (words, rest) = rest.split_once(" | ")?;
+        let (after, undo) = rest.split_once(" | ")?;
+        let edit = told_edit(alloc, before, words, steps)?;
+        is_remade(alloc, &edit, after, undo, steps)
     }
-    None
 }
 
 #[test]
-fn changed_trees_and_inverses(rt: HostRuntime) -> Result<(), Fail> {
-    let wrong = first_wrong_inverse::<Brand>(rt.alloc(), UNDONE, Blank::new(1));
+fn changed_trees_and_inverses(rt: HostRuntime) {
+    let wrong = first_untrue::<Brand, _>(rt.alloc(), UNDONE, Blank::new(1));
     assert_eq!(rt; wrong, None);
-    Ok(())
 }
 
 // A tree, a modification of it, a place before and behind it, and a path before and behind it, which is `-` where the
 // subtree is gone.
-const FOLLOWED: &[&str] = &[
-    r#"(f "a" "b") | assign /0 "x" | /0/1 /0/0 | /0 -"#,
-    r#"(f "a" "b") | assign /0 "x" | /1/1 /1/1 | /1 /1"#,
-    r#"(f (g "a") "b") | assign /0/0 "x" | /0/1 /0/1 | /0 -"#,
-    r#"(f (g "a")) | assign / "x" | /0/0/1 /0 | /0/0 -"#,
-    r#"(f "abc" "d") | insert /0 1 "xy" | /0/0 /0/0 | /0 -"#,
-    r#"(f "abc" "d") | insert /0 1 "xy" | /0/1 /0/3 | /1 /1"#,
-    r#"(f "abc" "d") | insert /0 1 "xy" | /0/3 /0/5 | / -"#,
-    r#"(f "a" "b") | insert / 1 (tuple "x" "y") | /0/1 /0/1 | /0 /0"#,
-    r#"(f "a" "b") | insert / 1 (tuple "x" "y") | /1/0 /3/0 | /1 /3"#,
-    r#"(f "a" "b") | insert / 1 (tuple "x" "y") | /1 /1 | / -"#,
-    r#"(f "abcd" "e") | remove /0 1 2 | /0/0 /0/0 | /0 -"#,
-    r#"(f "abcd" "e") | remove /0 1 2 | /0/1 /0/1 | /1 /1"#,
-    r#"(f "abcd" "e") | remove /0 1 2 | /0/2 /0/1 | /1 /1"#,
-    r#"(f "abcd" "e") | remove /0 1 2 | /0/3 /0/1 | /1 /1"#,
-    r#"(f "abcd" "e") | remove /0 1 2 | /0/4 /0/2 | / -"#,
-    r#"(f "a" "b" "c" "d") | remove / 1 2 | /0/1 /0/1 | /0 /0"#,
-    r#"(f "a" "b" "c" "d") | remove / 1 2 | /1/1 /0 | /1 -"#,
-    r#"(f "a" "b" "c" "d") | remove / 1 2 | /2/0 /0 | /2 -"#,
-    r#"(f "a" "b" "c" "d") | remove / 1 2 | /3/1 /1/1 | /3 /1"#,
-    r#"(f "a" "b" "c" "d") | remove / 1 2 | /1 /1 | / -"#,
-    r#"(f "x" "ab" "c") | split / 1 1 | /0/1 /0/1 | /0 /0"#,
-    r#"(f "x" "ab" "c") | split / 1 1 | /1/0 /1/0 | /1 -"#,
-    r#"(f "x" "ab" "c") | split / 1 1 | /1/1 /2/0 | /2 /3"#,
-    r#"(f "x" "ab" "c") | split / 1 1 | /1/2 /2/1 | / -"#,
-    r#"(f "x" "ab" "c") | split / 1 1 | /2/1 /3/1 | /2 /3"#,
-    r#"(f (g "a" "b" "c") "d") | split / 0 1 | /0/0/1 /0/0/1 | /0/0 /0/0"#,
-    r#"(f (g "a" "b" "c") "d") | split / 0 1 | /0/1/1 /1/0/1 | /0/1 /1/0"#,
-    r#"(f (g "a" "b" "c") "d") | split / 0 1 | /0/2/0 /1/1/0 | /0/2 /1/1"#,
-    r#"(f (g "a" "b" "c") "d") | split / 0 1 | /0/0 /0/0 | /0 -"#,
-    r#"(f (g "a" "b" "c") "d") | split / 0 1 | /0/1 /1/1 | /1 /2"#,
-    r#"(f (g "a" "b" "c") "d") | split / 0 1 | /1 /1 | / -"#,
-    r#"(f "x" "ab" "c" "d") | join / 1 | /0/1 /0/1 | /0 /0"#,
-    r#"(f "x" "ab" "c" "d") | join / 1 | /1/1 /1/1 | /1 -"#,
-    r#"(f "x" "ab" "c" "d") | join / 1 | /2/1 /1/3 | /2 -"#,
-    r#"(f "x" "ab" "c" "d") | join / 1 | /3/0 /2/0 | /3 /2"#,
-    r#"(f (g "a" "b") (g "c" "d") "e") | join / 0 | /0/1/1 /0/1/1 | /0/1 /0/1"#,
-    r#"(f (g "a" "b") (g "c" "d") "e") | join / 0 | /1/0/1 /0/2/1 | /1/0 /0/2"#,
-    r#"(f (g "a" "b") (g "c" "d") "e") | join / 0 | /1/1 /0/1 | /1/1 /0/3"#,
-    r#"(f (g "a" "b") (g "c" "d") "e") | join / 0 | /0/0 /0/0 | /0 -"#,
-    r#"(f (g "a" "b") (g "c" "d") "e") | join / 0 | /2/1 /1/1 | /1 -"#,
-    r#"(f (g "a" "b") (g "c" "d") "e") | join / 0 | /1 /1 | / -"#,
-    r#"(f "a") | assign-node / g | /0/1 /0/1 | /0 /0"#,
-    r#"(f "a") | assign-node / g | /1 /1 | / -"#,
-    r#"(f "a" "b") | insert-node /1 1 (g "x") | /1/1 /1/1/1 | /1 /1/1"#,
-    r#"(f "a" "b") | insert-node /1 1 (g "x") | /0/0 /0/0 | /0 /0"#,
-    r#"(f (h "a")) | insert-node / 0 (g) | /1 /0/1 | /0/0 /0/0/0"#,
-    r#"(f (h "a")) | insert-node /0 0 (g) | /1 /1 | / -"#,
-    r#"(f (g "a" "bc") "d") | remove-node /0 1 | /0/1/2 /0/2 | /0/1 /0"#,
-    r#"(f (g "a" "bc") "d") | remove-node /0 1 | /0/0/1 /0/0 | /0/0 -"#,
-    r#"(f (g "a" "bc") "d") | remove-node /0 1 | /0/1 /0/0 | /0 -"#,
-    r#"(f (g "a" "bc") "d") | remove-node /0 1 | /1/1 /1/1 | /1 /1"#,
-    r#"(f (g (h "a") "b")) | remove-node /0 0 | /0/0/0/1 /0/0/1 | /0/0/0 /0/0"#,
-    r#"(document "abc") | insert /0 1 "xy" | /0/2 /0/4 | /0 -"#,
-    r#"(document "abxyc") | remove /0 1 2 | /0/4 /0/2 | /0 -"#,
-    r#"(document "p" (f "abcde")) | insert / 0 (tuple "top") | /1/0/3 /2/0/3 | /1/0 /2/0"#,
+struct FollowedRow(&'static str);
+
+const FOLLOWED: &[FollowedRow] = &[
+    FollowedRow(r#"(f "a" "b") | assign /0 "x" | /0/1 /0/0 | /0 -"#),
+    FollowedRow(r#"(f "a" "b") | assign /0 "x" | /1/1 /1/1 | /1 /1"#),
+    FollowedRow(r#"(f (g "a") "b") | assign /0/0 "x" | /0/1 /0/1 | /0 -"#),
+    FollowedRow(r#"(f (g "a")) | assign / "x" | /0/0/1 /0 | /0/0 -"#),
+    FollowedRow(r#"(f "abc" "d") | insert /0 1 "xy" | /0/0 /0/0 | /0 -"#),
+    FollowedRow(r#"(f "abc" "d") | insert /0 1 "xy" | /0/1 /0/3 | /1 /1"#),
+    FollowedRow(r#"(f "abc" "d") | insert /0 1 "xy" | /0/3 /0/5 | / -"#),
+    FollowedRow(r#"(f "a" "b") | insert / 1 (tuple "x" "y") | /0/1 /0/1 | /0 /0"#),
+    FollowedRow(r#"(f "a" "b") | insert / 1 (tuple "x" "y") | /1/0 /3/0 | /1 /3"#),
+    FollowedRow(r#"(f "a" "b") | insert / 1 (tuple "x" "y") | /1 /1 | / -"#),
+    FollowedRow(r#"(f "abcd" "e") | remove /0 1 2 | /0/0 /0/0 | /0 -"#),
+    FollowedRow(r#"(f "abcd" "e") | remove /0 1 2 | /0/1 /0/1 | /1 /1"#),
+    FollowedRow(r#"(f "abcd" "e") | remove /0 1 2 | /0/2 /0/1 | /1 /1"#),
+    FollowedRow(r#"(f "abcd" "e") | remove /0 1 2 | /0/3 /0/1 | /1 /1"#),
+    FollowedRow(r#"(f "abcd" "e") | remove /0 1 2 | /0/4 /0/2 | / -"#),
+    FollowedRow(r#"(f "a" "b" "c" "d") | remove / 1 2 | /0/1 /0/1 | /0 /0"#),
+    FollowedRow(r#"(f "a" "b" "c" "d") | remove / 1 2 | /1/1 /0 | /1 -"#),
+    FollowedRow(r#"(f "a" "b" "c" "d") | remove / 1 2 | /2/0 /0 | /2 -"#),
+    FollowedRow(r#"(f "a" "b" "c" "d") | remove / 1 2 | /3/1 /1/1 | /3 /1"#),
+    FollowedRow(r#"(f "a" "b" "c" "d") | remove / 1 2 | /1 /1 | / -"#),
+    FollowedRow(r#"(f "x" "ab" "c") | split / 1 1 | /0/1 /0/1 | /0 /0"#),
+    FollowedRow(r#"(f "x" "ab" "c") | split / 1 1 | /1/0 /1/0 | /1 -"#),
+    FollowedRow(r#"(f "x" "ab" "c") | split / 1 1 | /1/1 /2/0 | /2 /3"#),
+    FollowedRow(r#"(f "x" "ab" "c") | split / 1 1 | /1/2 /2/1 | / -"#),
+    FollowedRow(r#"(f "x" "ab" "c") | split / 1 1 | /2/1 /3/1 | /2 /3"#),
+    FollowedRow(r#"(f (g "a" "b" "c") "d") | split / 0 1 | /0/0/1 /0/0/1 | /0/0 /0/0"#),
+    FollowedRow(r#"(f (g "a" "b" "c") "d") | split / 0 1 | /0/1/1 /1/0/1 | /0/1 /1/0"#),
+    FollowedRow(r#"(f (g "a" "b" "c") "d") | split / 0 1 | /0/2/0 /1/1/0 | /0/2 /1/1"#),
+    FollowedRow(r#"(f (g "a" "b" "c") "d") | split / 0 1 | /0/0 /0/0 | /0 -"#),
+    FollowedRow(r#"(f (g "a" "b" "c") "d") | split / 0 1 | /0/1 /1/1 | /1 /2"#),
+    FollowedRow(r#"(f (g "a" "b" "c") "d") | split / 0 1 | /1 /1 | / -"#),
+    FollowedRow(r#"(f "x" "ab" "c" "d") | join / 1 | /0/1 /0/1 | /0 /0"#),
+    FollowedRow(r#"(f "x" "ab" "c" "d") | join / 1 | /1/1 /1/1 | /1 -"#),
+    FollowedRow(r#"(f "x" "ab" "c" "d") | join / 1 | /2/1 /1/3 | /2 -"#),
+    FollowedRow(r#"(f "x" "ab" "c" "d") | join / 1 | /3/0 /2/0 | /3 /2"#),
+    FollowedRow(r#"(f (g "a" "b") (g "c" "d") "e") | join / 0 | /0/1/1 /0/1/1 | /0/1 /0/1"#),
+    FollowedRow(r#"(f (g "a" "b") (g "c" "d") "e") | join / 0 | /1/0/1 /0/2/1 | /1/0 /0/2"#),
+    FollowedRow(r#"(f (g "a" "b") (g "c" "d") "e") | join / 0 | /1/1 /0/1 | /1/1 /0/3"#),
+    FollowedRow(r#"(f (g "a" "b") (g "c" "d") "e") | join / 0 | /0/0 /0/0 | /0 -"#),
+    FollowedRow(r#"(f (g "a" "b") (g "c" "d") "e") | join / 0 | /2/1 /1/1 | /1 -"#),
+    FollowedRow(r#"(f (g "a" "b") (g "c" "d") "e") | join / 0 | /1 /1 | / -"#),
+    FollowedRow(r#"(f "a") | assign-node / g | /0/1 /0/1 | /0 /0"#),
+    FollowedRow(r#"(f "a") | assign-node / g | /1 /1 | / -"#),
+    FollowedRow(r#"(f "a" "b") | insert-node /1 1 (g "x") | /1/1 /1/1/1 | /1 /1/1"#),
+    FollowedRow(r#"(f "a" "b") | insert-node /1 1 (g "x") | /0/0 /0/0 | /0 /0"#),
+    FollowedRow(r#"(f (h "a")) | insert-node / 0 (g) | /1 /0/1 | /0/0 /0/0/0"#),
+    FollowedRow(r#"(f (h "a")) | insert-node /0 0 (g) | /1 /1 | / -"#),
+    FollowedRow(r#"(f (g "a" "bc") "d") | remove-node /0 1 | /0/1/2 /0/2 | /0/1 /0"#),
+    FollowedRow(r#"(f (g "a" "bc") "d") | remove-node /0 1 | /0/0/1 /0/0 | /0/0 -"#),
+    FollowedRow(r#"(f (g "a" "bc") "d") | remove-node /0 1 | /0/1 /0/0 | /0 -"#),
+    FollowedRow(r#"(f (g "a" "bc") "d") | remove-node /0 1 | /1/1 /1/1 | /1 /1"#),
+    FollowedRow(r#"(f (g (h "a") "b")) | remove-node /0 0 | /0/0/0/1 /0/0/1 | /0/0/0 /0/0"#),
+    FollowedRow(r#"(document "abc") | insert /0 1 "xy" | /0/2 /0/4 | /0 -"#),
+    FollowedRow(r#"(document "abxyc") | remove /0 1 2 | /0/4 /0/2 | /0 -"#),
+    FollowedRow(
+        r#"(document "p" (f "abcde")) | insert / 0 (tuple "top") | /1/0/3 /2/0/3 | /1/0 /2/0"#,
+    ),
 ];
 
 // The carried path is the one that the word tells, or none where it is `-`.
@@ -195,100 +188,89 @@ fn follows(alloc: Global, edit: &Remade, places: &str, paths: &str) -> Option<bo
     Some(moves(alloc, edit, from, to)? && carries(alloc, edit, old, new)?)
 }
 
-fn is_followed<L: Ledger>(alloc: Global, row: &str, steps: &mut Steps<L>) -> Option<bool> {
-    let (before, rest) = row.split_once(" | ")?;
-    let (words, rest) = rest.split_once(" | ")?;
-    let (places, paths) = rest.split_once(" | ")?;
-    let edit = told_edit(alloc, before, words, steps)?;
-    follows(alloc, &edit, places, paths)
-}
-
-fn first_wrong_place<L: Ledger>(alloc: Global, rows: &[&str], blank: Blank) -> Option<usize>
-    requires name { blank.name ≡ L.name }
-    requires parts { blank.parts ≡ L.parts }
-    requires whole { blank.parts ≡ 1 }
-{
-    let mut steps = Steps::<L>::new(blank);
-    for (number, row) in rows.iter().enumerate() {
-        if is_followed(alloc, row, &mut steps) != Some(true) {
-            return Some(number);
-        }
+impl Row for FollowedRow {
+    fn holds<L: Ledger>(&self, alloc: Global, steps: &mut Steps<L>) -> Option<bool> {
+        let (before, rest) = self.0.split_once(" | ")?;
+        let (words, rest) = rest.split_once(" | ")?;
+        let (places, paths) = rest.split_once(" | ")?;
+        let edit = told_edit(alloc, before, words, steps)?;
+        follows(alloc, &edit, places, paths)
     }
-    None
 }
 
 #[test]
-fn places_and_paths_afterwards(rt: HostRuntime) -> Result<(), Fail> {
-    let wrong = first_wrong_place::<Brand>(rt.alloc(), FOLLOWED, Blank::new(1));
+fn places_and_paths_afterwards(rt: HostRuntime) {
+    let wrong = first_untrue::<Brand, _>(rt.alloc(), FOLLOWED, Blank::new(1));
     assert_eq!(rt; wrong, None);
-    Ok(())
 }
 
 // A tree, a modification that doesn't apply to it, and why.
-const FAULTS: &[(&str, ModFault)] = &[
-    (r#"(document "ab") | assign /5 "x""#, ModFault::NoPath(0)),
-    (r#"(f (g "a")) | remove /0/1 0 0"#, ModFault::NoPath(1)),
-    (r#"(f (g "a")) | split /0/0/0 0 0"#, ModFault::NoPath(2)),
-    (r#"(f "a") | join /4294967295 0"#, ModFault::NoPath(0)),
-    (
+struct ModFaultRow(&'static str, ModFault);
+
+const FAULTS: &[ModFaultRow] = &[
+    ModFaultRow(r#"(document "ab") | assign /5 "x""#, ModFault::NoPath(0)),
+    ModFaultRow(r#"(f (g "a")) | remove /0/1 0 0"#, ModFault::NoPath(1)),
+    ModFaultRow(r#"(f (g "a")) | split /0/0/0 0 0"#, ModFault::NoPath(2)),
+    ModFaultRow(r#"(f "a") | join /4294967295 0"#, ModFault::NoPath(0)),
+    ModFaultRow(
         r#"(document "ab") | insert /0 0 (tuple)"#,
         ModFault::NotString,
     ),
-    (r#"(f "ab") | insert /0 9 (g)"#, ModFault::NotString),
-    (r#"(f "ab") | insert / 0 "x""#, ModFault::NotNode),
-    (r#"(f "ab") | insert / 9 (g)"#, ModFault::NotNode),
-    (r#""ab" | split / 0 0"#, ModFault::NotNode),
-    (r#""ab" | join / 0"#, ModFault::NotNode),
-    (r#"(document "ab") | assign-node /0 em"#, ModFault::NotNode),
-    (r#"(f "ab") | insert-node / 9 "x""#, ModFault::NotNode),
-    (r#""ab" | remove-node / 0"#, ModFault::NotNode),
-    (
+    ModFaultRow(r#"(f "ab") | insert /0 9 (g)"#, ModFault::NotString),
+    ModFaultRow(r#"(f "ab") | insert / 0 "x""#, ModFault::NotNode),
+    ModFaultRow(r#"(f "ab") | insert / 9 (g)"#, ModFault::NotNode),
+    ModFaultRow(r#""ab" | split / 0 0"#, ModFault::NotNode),
+    ModFaultRow(r#""ab" | join / 0"#, ModFault::NotNode),
+    ModFaultRow(r#"(document "ab") | assign-node /0 em"#, ModFault::NotNode),
+    ModFaultRow(r#"(f "ab") | insert-node / 9 "x""#, ModFault::NotNode),
+    ModFaultRow(r#""ab" | remove-node / 0"#, ModFault::NotNode),
+    ModFaultRow(
         r#"(document "ab") | insert /0 3 "x""#,
         ModFault::BadPlace(2),
     ),
-    (r#"(document "ab") | remove /0 1 2"#, ModFault::BadPlace(2)),
-    (
+    ModFaultRow(r#"(document "ab") | remove /0 1 2"#, ModFault::BadPlace(2)),
+    ModFaultRow(
         r#""ab" | remove / 4294967295 4294967295"#,
         ModFault::BadPlace(2),
     ),
-    (r#""ab" | insert / 4294967295 """#, ModFault::BadPlace(2)),
-    (r#"(f "a" "b") | insert / 3 (tuple)"#, ModFault::BadPlace(2)),
-    (r#"(f "a" "b") | remove / 2 1"#, ModFault::BadPlace(2)),
-    (
+    ModFaultRow(r#""ab" | insert / 4294967295 """#, ModFault::BadPlace(2)),
+    ModFaultRow(r#"(f "a" "b") | insert / 3 (tuple)"#, ModFault::BadPlace(2)),
+    ModFaultRow(r#"(f "a" "b") | remove / 2 1"#, ModFault::BadPlace(2)),
+    ModFaultRow(
         r#"(f "a" "b") | remove / 1 4294967295"#,
         ModFault::BadPlace(2),
     ),
-    (r#"(document "ab") | split / 3 0"#, ModFault::BadPlace(1)),
-    (r#"(f "a") | split / 4294967295 0"#, ModFault::BadPlace(1)),
-    (r#"(f "abc") | split / 0 4"#, ModFault::BadPlace(3)),
-    (
+    ModFaultRow(r#"(document "ab") | split / 3 0"#, ModFault::BadPlace(1)),
+    ModFaultRow(r#"(f "a") | split / 4294967295 0"#, ModFault::BadPlace(1)),
+    ModFaultRow(r#"(f "abc") | split / 0 4"#, ModFault::BadPlace(3)),
+    ModFaultRow(
         r#"(f (g "a")) | split / 0 4294967295"#,
         ModFault::BadPlace(1),
     ),
-    (
+    ModFaultRow(
         r#"(document (em "a") (strong "b")) | join / 1"#,
         ModFault::BadPlace(2),
     ),
-    (r#"(f "a" "b") | join / 4294967295"#, ModFault::BadPlace(2)),
-    (
+    ModFaultRow(r#"(f "a" "b") | join / 4294967295"#, ModFault::BadPlace(2)),
+    ModFaultRow(
         r#"(f "a") | insert-node / 2 (g "b")"#,
         ModFault::BadPlace(1),
     ),
-    (r#"(f "a") | remove-node / 1"#, ModFault::BadPlace(1)),
-    (
+    ModFaultRow(r#"(f "a") | remove-node / 1"#, ModFault::BadPlace(1)),
+    ModFaultRow(
         r#"(document (em "a") (strong "b")) | join / 0"#,
         ModFault::Differ,
     ),
-    (r#"(f "a" (g)) | join / 0"#, ModFault::Differ),
-    (r#"(f (g) "a") | join / 0"#, ModFault::Differ),
-    (
+    ModFaultRow(r#"(f "a" (g)) | join / 0"#, ModFault::Differ),
+    ModFaultRow(r#"(f (g) "a") | join / 0"#, ModFault::Differ),
+    ModFaultRow(
         r#"(document "a<alpha>b") | insert /0 3 "x""#,
         ModFault::CutsSymbol(3),
     ),
-    (r#""a<c>b" | remove / 2 9"#, ModFault::BadPlace(5)),
-    (r#""a<c>b" | remove / 2 1"#, ModFault::CutsSymbol(2)),
-    (r#""a<c>b" | remove / 0 3"#, ModFault::CutsSymbol(3)),
-    (r#"(f "a<c>b") | split / 0 2"#, ModFault::CutsSymbol(2)),
+    ModFaultRow(r#""a<c>b" | remove / 2 9"#, ModFault::BadPlace(5)),
+    ModFaultRow(r#""a<c>b" | remove / 2 1"#, ModFault::CutsSymbol(2)),
+    ModFaultRow(r#""a<c>b" | remove / 0 3"#, ModFault::CutsSymbol(3)),
+    ModFaultRow(r#"(f "a<c>b") | split / 0 2"#, ModFault::CutsSymbol(2)),
 ];
 
 // The fault, which all three calls answer.
@@ -306,38 +288,17 @@ pub(crate) fn all_faults<L: Ledger>(
     Some(fault)
 }
 
-fn has_fault<L: Ledger>(
-    alloc: Global,
-    row: &(&str, ModFault),
-    steps: &mut Steps<L>,
-) -> Option<bool> {
-    let (before, words) = row.0.split_once(" | ")?;
-    let t = tree_of(alloc, before, steps)?;
-    let m = change(alloc, words, steps)?;
-    Some(all_faults(alloc, &t, &m, steps) == Some(row.1))
-}
-
-fn first_wrong_fault<L: Ledger>(
-    alloc: Global,
-    rows: &[(&str, ModFault)],
-    blank: Blank,
-) -> Option<usize>
-    requires name { blank.name ≡ L.name }
-    requires parts { blank.parts ≡ L.parts }
-    requires whole { blank.parts ≡ 1 }
-{
-    let mut steps = Steps::<L>::new(blank);
-    for (number, row) in rows.iter().enumerate() {
-        if has_fault(alloc, row, &mut steps) != Some(true) {
-            return Some(number);
-        }
+impl Row for ModFaultRow {
+    fn holds<L: Ledger>(&self, alloc: Global, steps: &mut Steps<L>) -> Option<bool> {
+        let (before, words) = self.0.split_once(" | ")?;
+        let t = tree_of(alloc, before, steps)?;
+        let m = change(alloc, words, steps)?;
+        Some(all_faults(alloc, &t, &m, steps) == Some(self.1))
     }
-    None
 }
 
 #[test]
-fn faults(rt: HostRuntime) -> Result<(), Fail> {
-    let wrong = first_wrong_fault::<Brand>(rt.alloc(), FAULTS, Blank::new(1));
+fn faults(rt: HostRuntime) {
+    let wrong = first_untrue::<Brand, _>(rt.alloc(), FAULTS, Blank::new(1));
     assert_eq!(rt; wrong, None);
-    Ok(())
 }

@@ -1,7 +1,6 @@
 // Buffers and their names, made and read, and the form by a name.
 
 use std::alloc::Global;
-use std::test::Fail;
 use tx_doc::{Buffer, Form, Name, form_of};
 use tx_tree::{Text, Tree};
 
@@ -34,10 +33,9 @@ fn bytes_of_none(alloc: Global) -> usize {
 }
 
 #[test]
-fn a_buffer_keeps_its_name_and_tree(rt: HostRuntime) -> Result<(), Fail> {
+fn a_buffer_keeps_its_name_and_tree(rt: HostRuntime) {
     assert_eq!(rt; keeps(rt.alloc()), Some(true));
     assert_eq!(rt; bytes_of_none(rt.alloc()), 0);
-    Ok(())
 }
 
 // Names, and the forms of the files that they are of.
@@ -74,7 +72,6 @@ fn first_wrong_form(rows: &[(&[u8], Form)]) -> Option<usize> {
 }
 
 #[test]
-fn forms_by_names(rt: HostRuntime) -> Result<(), Fail> {
+fn forms_by_names(rt: HostRuntime) {
     assert_eq!(rt; first_wrong_form(FORMS), None);
-    Ok(())
 }

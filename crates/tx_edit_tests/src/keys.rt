@@ -1,15 +1,13 @@
 // Keys: what they make of a tree at a place, and where they lead among stops.
-ghost use Rattle.std.specs.Prelude.{◌≡◌};
 
 use crate::samples::{changes, is_place, is_tree, place, same_change};
 use std::alloc::Global;
 use std::marker::Brand;
 use std::sync::ledger::{Blank, Ledger};
-use std::test::Fail;
 use tx_base::Steps;
 use tx_edit::{EditFault, Move, backspace, enter, left, right, type_text};
 use tx_mod::{Mod, apply};
-use tx_samples::tree_of;
+use tx_samples::{Row, first_untrue, tree_of};
 use tx_tree::{Place, Text, Tree};
 
 // The key at the place, or None where the place is none of the tree. Any other word than `backspace` and `enter` is
@@ -88,192 +86,162 @@ fn pressed_at(alloc: Global, t: &Tree, words: &str) -> Option<Result<Move, EditF
 }
 
 // What keys make: a tree, a cursor and a key; then modifications, the cursor afterwards and the changed tree.
-const EDITS: &[(&str, &str)] = &[
-    (
+struct KeyRow(&'static str, &'static str);
+
+const KEYS: &[KeyRow] = &[
+    KeyRow(
         r#"(document "abc" "d") | /0/1 | <alpha>"#,
         r#"insert /0 1 "<alpha>" | /0/8 | (document "a<alpha>bc" "d")"#,
     ),
-    (
+    KeyRow(
         r#"(document "a<alpha>bc" "d") | /0/8 | backspace"#,
         r#"remove /0 1 7 | /0/1 | (document "abc" "d")"#,
     ),
-    (
+    KeyRow(
         r#"(document "abc" "d") | /0/1 | enter"#,
         r#"split / 0 1 | /1/0 | (document "a" "bc" "d")"#,
     ),
-    (
+    KeyRow(
         r#"(document "a" "bc" "d") | /1/0 | backspace"#,
         r#"join / 0 | /0/1 | (document "abc" "d")"#,
     ),
-    (
+    KeyRow(
         r#"(document "a" "b") | /0/1 |  "#,
         r#"insert /0 1 " " | /0/2 | (document "a " "b")"#,
     ),
-    (r#""ab" | /2 | xy"#, r#"insert / 2 "xy" | /4 | "abxy""#),
-    (r#""" | /0 | "#, r#"insert / 0 "" | /0 | """#),
-    (
+    KeyRow(r#""ab" | /2 | xy"#, r#"insert / 2 "xy" | /4 | "abxy""#),
+    KeyRow(r#""" | /0 | "#, r#"insert / 0 "" | /0 | """#),
+    KeyRow(
         r#"(f (g "a") "b") | /0/0/0 | <b><c>"#,
         r#"insert /0/0 0 "<b><c>" | /0/0/6 | (f (g "<b><c>a") "b")"#,
     ),
-    (r#""abc" | /3 | backspace"#, r#"remove / 2 1 | /2 | "ab""#),
-    (r#""abc" | /1 | backspace"#, r#"remove / 0 1 | /0 | "bc""#),
-    (
+    KeyRow(r#""abc" | /3 | backspace"#, r#"remove / 2 1 | /2 | "ab""#),
+    KeyRow(r#""abc" | /1 | backspace"#, r#"remove / 0 1 | /0 | "bc""#),
+    KeyRow(
         r#"(f "<a><bcd>e") | /0/8 | backspace"#,
         r#"remove /0 3 5 | /0/3 | (f "<a>e")"#,
     ),
-    (
+    KeyRow(
         r#"(f "<a>b") | /0/3 | backspace"#,
         r#"remove /0 0 3 | /0/0 | (f "b")"#,
     ),
-    (
+    KeyRow(
         r#"(document "<a>" "<b>" "") | /1/0 | backspace"#,
         r#"join / 0 | /0/3 | (document "<a><b>" "")"#,
     ),
-    (
+    KeyRow(
         r#"(f (document "" "")) | /0/1/0 | backspace"#,
         r#"join /0 0 | /0/0/0 | (f (document ""))"#,
     ),
-    (
+    KeyRow(
         r#"(document "x" (g) "y" "z") | /3/0 | backspace"#,
         r#"join / 2 | /2/1 | (document "x" (g) "yz")"#,
     ),
-    (
+    KeyRow(
         r#"(document "x" "ab") | /1/0 | enter"#,
         r#"split / 1 0 | /2/0 | (document "x" "" "ab")"#,
     ),
-    (
+    KeyRow(
         r#"(document "x" "ab<c>") | /1/5 | enter"#,
         r#"split / 1 5 | /2/0 | (document "x" "ab<c>" "")"#,
     ),
-    (
+    KeyRow(
         r#"(document (concat "ab" (f) "cd") "x") | /0/2/1 | enter"#,
         r#"split /0 2 1 & split / 0 3 | /1/0/0 | (document (concat "ab" (f) "c") (concat "d") "x")"#,
     ),
-    (
+    KeyRow(
         r#"(document "x" (concat "ab" (f))) | /1/0/0 | enter"#,
         r#"split /1 0 0 & split / 1 1 | /2/0/0 | (document "x" (concat "") (concat "ab" (f)))"#,
     ),
-    (
+    KeyRow(
         r#"(f (document (concat "a"))) | /0/0/0/1 | enter"#,
         r#"split /0/0 0 1 & split /0 0 1 | /0/1/0/0 | (f (document (concat "a") (concat "")))"#,
     ),
-    (
+    KeyRow(
         r#"(concat (document "ab")) | /0/0/1 | enter"#,
         r#"split /0 0 1 | /0/1/0 | (concat (document "a" "b"))"#,
     ),
-    (
+    KeyRow(
         r#"(document (document "ab")) | /0/0/1 | enter"#,
         r#"split /0 0 1 | /0/1/0 | (document (document "a" "b"))"#,
     ),
 ];
 
-fn edits<L: Ledger>(alloc: Global, row: &(&str, &str), steps: &mut Steps<L>) -> Option<bool> {
-    let (before, words) = row.0.split_once(" | ")?;
-    let t = tree_of(alloc, before, steps)?;
-    let made = pressed_at(alloc, &t, words)?.ok()?;
-    is_edit(alloc, &t, &made, row.1, steps)
-}
-
-fn first_wrong_edit<L: Ledger>(alloc: Global, rows: &[(&str, &str)], blank: Blank) -> Option<usize>
-    requires name { blank.name ≡ L.name }
-    requires parts { blank.parts ≡ L.parts }
-    requires whole { blank.parts ≡ 1 }
-{
-    let mut steps = Steps::<L>::new(blank);
-    for (number, row) in rows.iter().enumerate() {
-        if edits(alloc, row, &mut steps) != Some(true) {
-            return Some(number);
-        }
+impl Row for KeyRow {
+    fn holds<L: Ledger>(&self, alloc: Global, steps: &mut Steps<L>) -> Option<bool> {
+        let (before, words) = self.0.split_once(" | ")?;
+        let t = tree_of(alloc, before, steps)?;
+        let made = pressed_at(alloc, &t, words)?.ok()?;
+        is_edit(alloc, &t, &made, self.1, steps)
     }
-    None
 }
 
 #[test]
-fn what_keys_make(rt: HostRuntime) -> Result<(), Fail> {
-    let wrong = first_wrong_edit::<Brand>(rt.alloc(), EDITS, Blank::new(1));
+fn what_keys_make(rt: HostRuntime) {
+    let wrong = first_untrue::<Brand, _>(rt.alloc(), KEYS, Blank::new(1));
     assert_eq!(rt; wrong, None);
-    Ok(())
 }
 
 // A tree, a cursor and a key, and why that makes nothing.
-const NOTHING: &[(&str, EditFault)] = &[
-    (r#"(f "a") | /0 | x"#, EditFault::NoText),
-    (r#"(document (f)) | /0/1 | x"#, EditFault::NoText),
-    (r#"(f "a") | /1 | backspace"#, EditFault::NoText),
-    (r#"(document (f)) | /0/0 | enter"#, EditFault::NoText),
-    (r#""ab" | /0 | backspace"#, EditFault::AtStart),
-    (r#"(document "ab") | /0/0 | backspace"#, EditFault::AtStart),
-    (r#"(f "a" "b") | /1/0 | backspace"#, EditFault::AtStart),
-    (
+struct NoEditRow(&'static str, EditFault);
+
+const NOTHING: &[NoEditRow] = &[
+    NoEditRow(r#"(f "a") | /0 | x"#, EditFault::NoText),
+    NoEditRow(r#"(document (f)) | /0/1 | x"#, EditFault::NoText),
+    NoEditRow(r#"(f "a") | /1 | backspace"#, EditFault::NoText),
+    NoEditRow(r#"(document (f)) | /0/0 | enter"#, EditFault::NoText),
+    NoEditRow(r#""ab" | /0 | backspace"#, EditFault::AtStart),
+    NoEditRow(r#"(document "ab") | /0/0 | backspace"#, EditFault::AtStart),
+    NoEditRow(r#"(f "a" "b") | /1/0 | backspace"#, EditFault::AtStart),
+    NoEditRow(
         r#"(document (f) "b") | /1/0 | backspace"#,
         EditFault::AtStart,
     ),
-    (
+    NoEditRow(
         r#"(document "x" (f) "b") | /2/0 | backspace"#,
         EditFault::AtStart,
     ),
-    (
+    NoEditRow(
         r#"(document (concat "a" "b")) | /0/1/0 | backspace"#,
         EditFault::AtStart,
     ),
-    (
+    NoEditRow(
         r#"(document "a" (concat "b")) | /1/0/0 | backspace"#,
         EditFault::AtStart,
     ),
-    (r#""ab" | /1 | enter"#, EditFault::NotInParagraph),
-    (r#"(f "ab") | /0/1 | enter"#, EditFault::NotInParagraph),
-    (r#"(concat "ab") | /0/1 | enter"#, EditFault::NotInParagraph),
-    (
+    NoEditRow(r#""ab" | /1 | enter"#, EditFault::NotInParagraph),
+    NoEditRow(r#"(f "ab") | /0/1 | enter"#, EditFault::NotInParagraph),
+    NoEditRow(r#"(concat "ab") | /0/1 | enter"#, EditFault::NotInParagraph),
+    NoEditRow(
         r#"(f (concat "ab")) | /0/0/1 | enter"#,
         EditFault::NotInParagraph,
     ),
-    (
+    NoEditRow(
         r#"(document (f "ab")) | /0/0/1 | enter"#,
         EditFault::NotInParagraph,
     ),
-    (
+    NoEditRow(
         r#"(document (concat (concat "ab"))) | /0/0/0/1 | enter"#,
         EditFault::NotInParagraph,
     ),
-    (
+    NoEditRow(
         r#"(document (concat (f "ab"))) | /0/0/0/0 | enter"#,
         EditFault::NotInParagraph,
     ),
 ];
 
-fn makes_nothing<L: Ledger>(
-    alloc: Global,
-    row: &(&str, EditFault),
-    steps: &mut Steps<L>,
-) -> Option<bool> {
-    let (before, words) = row.0.split_once(" | ")?;
-    let t = tree_of(alloc, before, steps)?;
-    Some(pressed_at(alloc, &t, words)?.err() == Some(row.1))
-}
-
-fn first_wrong_fault<L: Ledger>(
-    alloc: Global,
-    rows: &[(&str, EditFault)],
-    blank: Blank,
-) -> Option<usize>
-    requires name { blank.name ≡ L.name }
-    requires parts { blank.parts ≡ L.parts }
-    requires whole { blank.parts ≡ 1 }
-{
-    let mut steps = Steps::<L>::new(blank);
-    for (number, row) in rows.iter().enumerate() {
-        if makes_nothing(alloc, row, &mut steps) != Some(true) {
-            return Some(number);
-        }
+impl Row for NoEditRow {
+    fn holds<L: Ledger>(&self, alloc: Global, steps: &mut Steps<L>) -> Option<bool> {
+        let (before, words) = self.0.split_once(" | ")?;
+        let t = tree_of(alloc, before, steps)?;
+        Some(pressed_at(alloc, &t, words)?.err() == Some(self.1))
     }
-    None
 }
 
 #[test]
-fn keys_that_make_nothing(rt: HostRuntime) -> Result<(), Fail> {
-    let wrong = first_wrong_fault::<Brand>(rt.alloc(), NOTHING, Blank::new(1));
+fn keys_that_make_nothing(rt: HostRuntime) {
+    let wrong = first_untrue::<Brand, _>(rt.alloc(), NOTHING, Blank::new(1));
     assert_eq!(rt; wrong, None);
-    Ok(())
 }
 
 // Places with a space between them; none of an empty text.
@@ -332,10 +300,9 @@ fn first_wrong_stop(alloc: Global, rows: &[(&str, &str)]) -> Option<usize> {
 }
 
 #[test]
-fn keys_among_stops(rt: HostRuntime) -> Result<(), Fail> {
+fn keys_among_stops(rt: HostRuntime) {
     let wrong = first_wrong_stop(rt.alloc(), AMONG);
     assert_eq!(rt; wrong, None);
-    Ok(())
 }
 
 // A key, the cursor and the stops, and why it leads nowhere.
@@ -367,8 +334,7 @@ fn first_wrong_end(alloc: Global, rows: &[(&str, EditFault)]) -> Option<usize> {
 }
 
 #[test]
-fn keys_past_the_stops(rt: HostRuntime) -> Result<(), Fail> {
+fn keys_past_the_stops(rt: HostRuntime) {
     let wrong = first_wrong_end(rt.alloc(), PAST);
     assert_eq!(rt; wrong, None);
-    Ok(())
 }

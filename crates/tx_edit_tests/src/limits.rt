@@ -1,17 +1,16 @@
 // Modifications that make a tree which is past a limit.
-ghost use Rattle.std.specs.Prelude.{◌≡◌};
 
 use crate::changes::all_faults;
 use crate::samples::change;
 use std::alloc::Global;
 use std::marker::Brand;
 use std::sync::ledger::{Blank, Ledger};
-use std::test::Fail;
 use tx_base::Steps;
 use tx_mod::{Mod, ModFault};
+use tx_samples::{Row, first_untrue};
 use tx_tree::{MOST_ARITY, MOST_DEPTH, MOST_TEXT, Path, Text, Tree};
 
-// What the changed tree would be.
+// A changed tree that is past a limit, and by what.
 #[derive(Clone, Copy)]
 enum Past {
     Long,
@@ -21,12 +20,15 @@ enum Past {
     WideAndDeep,
 }
 
-const LIMITS: &[(Past, ModFault)] = &[
-    (Past::Long, ModFault::TooLong(1_048_576)),
-    (Past::Wide, ModFault::TooWide(65_536)),
-    (Past::Deep, ModFault::TooDeep(401)),
-    (Past::Big, ModFault::TooBig(8_388_609)),
-    (Past::WideAndDeep, ModFault::TooWide(65_536)),
+// What the changed tree would be, and why the modification is refused.
+struct LimitRow(Past, ModFault);
+
+const LIMITS: &[LimitRow] = &[
+    LimitRow(Past::Long, ModFault::TooLong(1_048_576)),
+    LimitRow(Past::Wide, ModFault::TooWide(65_536)),
+    LimitRow(Past::Deep, ModFault::TooDeep(401)),
+    LimitRow(Past::Big, ModFault::TooBig(8_388_609)),
+    LimitRow(Past::WideAndDeep, ModFault::TooWide(65_536)),
 ];
 
 // A leaf of so many letters.
@@ -116,38 +118,21 @@ fn wide_and_deep<L: Ledger>(alloc: Global, steps: &mut Steps<L>) -> Option<ModFa
     fault_of_wrapping(alloc, &deepest, 65_535, &widest, steps)
 }
 
-fn is_refused<L: Ledger>(alloc: Global, row: &(Past, ModFault), steps: &mut Steps<L>) -> bool {
-    let fault = match row.0 {
-        Past::Long => too_long(alloc, steps),
-        Past::Wide => too_wide(alloc, steps),
-        Past::Deep => too_deep(alloc, steps),
-        Past::Big => too_big(alloc, steps),
-        Past::WideAndDeep => wide_and_deep(alloc, steps),
-    };
-    fault == Some(row.1)
-}
-
-fn first_wrong_limit<L: Ledger>(
-    alloc: Global,
-    rows: &[(Past, ModFault)],
-    blank: Blank,
-) -> Option<usize>
-    requires name { blank.name ≡ L.name }
-    requires parts { blank.parts ≡ L.parts }
-    requires whole { blank.parts ≡ 1 }
-{
-    let mut steps = Steps::<L>::new(blank);
-    for (number, row) in rows.iter().enumerate() {
-        if !is_refused(alloc, row, &mut steps) {
-            return Some(number);
-        }
+impl Row for LimitRow {
+    fn holds<L: Ledger>(&self, alloc: Global, steps: &mut Steps<L>) -> Option<bool> {
+        let fault = match self.0 {
+            Past::Long => too_long(alloc, steps),
+            Past::Wide => too_wide(alloc, steps),
+            Past::Deep => too_deep(alloc, steps),
+            Past::Big => too_big(alloc, steps),
+            Past::WideAndDeep => wide_and_deep(alloc, steps),
+        };
+        Some(fault == Some(self.1))
     }
-    None
 }
 
 #[test]
-fn limits_of_the_changed_tree(rt: HostRuntime) -> Result<(), Fail> {
-    let wrong = first_wrong_limit::<Brand>(rt.alloc(), LIMITS, Blank::new(1));
+fn limits_of_the_changed_tree(rt: HostRuntime) {
+    let wrong = first_untrue::<Brand, _>(rt.alloc(), LIMITS, Blank::new(1));
     assert_eq!(rt; wrong, None);
-    Ok(())
 }

@@ -8,7 +8,6 @@ use crate::samples::change;
 use std::alloc::Global;
 use std::marker::Brand;
 use std::sync::ledger::{Blank, Ledger};
-use std::test::Fail;
 use tx_base::Steps;
 use tx_dice::Dice;
 use tx_state::EditorState;
@@ -198,9 +197,8 @@ fn session<L: Ledger>(alloc: Global, blank: Blank) -> (Option<u32>, Counts)
 }
 
 #[test]
-fn a_random_session(rt: HostRuntime) -> Result<(), Fail> {
+fn a_random_session(rt: HostRuntime) {
     let (differs, counts) = session::<Brand>(rt.alloc(), Blank::new(1));
     assert_eq!(rt; differs, None);
     assert!(rt; counts.are_enough(), "{counts:?}");
-    Ok(())
 }

@@ -7,7 +7,6 @@ use crate::samples::{change, path_after, place_after, stays};
 use std::alloc::Global;
 use std::marker::Brand;
 use std::sync::ledger::{Blank, Ledger};
-use std::test::Fail;
 use tx_base::Steps;
 use tx_dice::Dice;
 use tx_mod::{Mod, applicable};
@@ -75,7 +74,7 @@ fn is_followed<L: Ledger>(
 }
 
 // The modification doesn't apply, or is followed.
-fn holds<L: Ledger>(
+fn is_refused_or_followed<L: Ledger>(
     alloc: Global,
     t: Tree,
     m: Mod,
@@ -117,7 +116,7 @@ fn is_right<L: Ledger>(
     let mut dice = Dice { state: seed };
     let t = told_tree(alloc, &mut dice, steps)?;
     let m = told_change(alloc, &t, &mut dice, steps)?;
-    holds(alloc, t, m, counts, &mut dice, steps)
+    is_refused_or_followed(alloc, t, m, counts, &mut dice, steps)
 }
 
 // The first of 4000 that doesn't hold, and what was counted up to it.
@@ -140,9 +139,8 @@ fn first_wrong_trial<L: Ledger>(alloc: Global, blank: Blank) -> (Option<u32>, Co
 }
 
 #[test]
-fn random_modifications(rt: HostRuntime) -> Result<(), Fail> {
+fn random_modifications(rt: HostRuntime) {
     let (wrong, counts) = first_wrong_trial::<Brand>(rt.alloc(), Blank::new(1));
     assert_eq!(rt; wrong, None);
     assert!(rt; counts.are_enough(), "{counts:?}");
-    Ok(())
 }

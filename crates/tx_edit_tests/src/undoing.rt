@@ -1,14 +1,13 @@
 // Undo to its end, and edits that pass a limit.
-ghost use Rattle.std.specs.Prelude.{◌≡◌};
 
 use crate::replies::{are_answered, cursor_of, edit, opened, redo, text_of, undo};
 use crate::samples::change;
 use std::alloc::Global;
 use std::marker::Brand;
 use std::sync::ledger::{Blank, Ledger};
-use std::test::Fail;
 use tx_base::Steps;
 use tx_mod::Mod;
+use tx_samples::{Row, first_untrue};
 use tx_state::{EditorState, UndoFault};
 
 // The size of the document where the cursor stands at the end of its one text, of size less 2 bytes.
@@ -109,13 +108,15 @@ fn turned_over<L: Ledger>(
 }
 
 // How many edits are made, and how many of them are undone and redone.
-const TURNS: &[(u64, u64)] = &[
-    (0, 0),
-    (1, 1),
-    (999, 999),
-    (1000, 1000),
-    (1001, 1000),
-    (1500, 1000),
+struct TurnsRow(u64, u64);
+
+const TURNS: &[TurnsRow] = &[
+    TurnsRow(0, 0),
+    TurnsRow(1, 1),
+    TurnsRow(999, 999),
+    TurnsRow(1000, 1000),
+    TurnsRow(1001, 1000),
+    TurnsRow(1500, 1000),
 ];
 
 fn told_turns(count: u64, kept: u64) -> Turns {
@@ -129,32 +130,19 @@ fn told_turns(count: u64, kept: u64) -> Turns {
     }
 }
 
-fn is_turned<L: Ledger>(alloc: Global, row: &(u64, u64), steps: &mut Steps<L>) -> Option<bool> {
-    let m = change(alloc, "insert /0 0 \"x\"", steps)?;
-    let mut state = opened(alloc, "(document \"\")", steps)?;
-    let got = turned_over(alloc, &mut state, &m, row.0, steps)?;
-    Some(got == told_turns(row.0, row.1))
-}
-
-fn first_wrong_turn<L: Ledger>(alloc: Global, rows: &[(u64, u64)], blank: Blank) -> Option<usize>
-    requires name { blank.name ≡ L.name }
-    requires parts { blank.parts ≡ L.parts }
-    requires whole { blank.parts ≡ 1 }
-{
-    let mut steps = Steps::<L>::new(blank);
-    for (number, row) in rows.iter().enumerate() {
-        if is_turned(alloc, row, &mut steps) != Some(true) {
-            return Some(number);
-        }
+impl Row for TurnsRow {
+    fn holds<L: Ledger>(&self, alloc: Global, steps: &mut Steps<L>) -> Option<bool> {
+        let m = change(alloc, "insert /0 0 \"x\"", steps)?;
+        let mut state = opened(alloc, "(document \"\")", steps)?;
+        let got = turned_over(alloc, &mut state, &m, self.0, steps)?;
+        Some(got == told_turns(self.0, self.1))
     }
-    None
 }
 
 #[test]
-fn a_thousand_edits_are_undone(rt: HostRuntime) -> Result<(), Fail> {
-    let wrong = first_wrong_turn::<Brand>(rt.alloc(), TURNS, Blank::new(1));
+fn a_thousand_edits_are_undone(rt: HostRuntime) {
+    let wrong = first_untrue::<Brand, _>(rt.alloc(), TURNS, Blank::new(1));
     assert_eq!(rt; wrong, None);
-    Ok(())
 }
 
 // The words of a document of nodes in nodes.
@@ -189,12 +177,14 @@ enum Extreme {
 }
 
 // A document, and commands with their replies: a change that passes a limit, and that there is nothing to undo then.
-const LIMITS: &[(Extreme, &str)] = &[
-    (
+struct ExtremeRow(Extreme, &'static str);
+
+const EXTREMES: &[ExtremeRow] = &[
+    ExtremeRow(
         Extreme::Nested(399),
         "insert-node / 0 (b) => no too-deep 401 | undo => no undo",
     ),
-    (
+    ExtremeRow(
         Extreme::Long(1_048_575),
         "insert / 0 \"x\" => no too-long 1048576 | undo => no undo",
     ),
@@ -213,39 +203,18 @@ fn stays_under<L: Ledger>(
     Some(answered && text.as_str() == words)
 }
 
-fn is_refused<L: Ledger>(
-    alloc: Global,
-    row: &(Extreme, &str),
-    steps: &mut Steps<L>,
-) -> Option<bool> {
-    let words = match row.0 {
-        Extreme::Nested(depth) => nested(alloc, depth)?,
-        Extreme::Long(length) => long_text(alloc, length)?,
-    };
-    stays_under(alloc, words.as_str(), row.1, steps)
-}
-
-fn first_wrong_limit<L: Ledger>(
-    alloc: Global,
-    rows: &[(Extreme, &str)],
-    blank: Blank,
-) -> Option<usize>
-    requires name { blank.name ≡ L.name }
-    requires parts { blank.parts ≡ L.parts }
-    requires whole { blank.parts ≡ 1 }
-{
-    let mut steps = Steps::<L>::new(blank);
-    for (number, row) in rows.iter().enumerate() {
-        if is_refused(alloc, row, &mut steps) != Some(true) {
-            return Some(number);
-        }
+impl Row for ExtremeRow {
+    fn holds<L: Ledger>(&self, alloc: Global, steps: &mut Steps<L>) -> Option<bool> {
+        let words = match self.0 {
+            Extreme::Nested(depth) => nested(alloc, depth)?,
+            Extreme::Long(length) => long_text(alloc, length)?,
+        };
+        stays_under(alloc, words.as_str(), self.1, steps)
     }
-    None
 }
 
 #[test]
-fn edits_past_a_limit(rt: HostRuntime) -> Result<(), Fail> {
-    let wrong = first_wrong_limit::<Brand>(rt.alloc(), LIMITS, Blank::new(1));
+fn edits_past_a_limit(rt: HostRuntime) {
+    let wrong = first_untrue::<Brand, _>(rt.alloc(), EXTREMES, Blank::new(1));
     assert_eq!(rt; wrong, None);
-    Ok(())
 }

@@ -1,13 +1,11 @@
 // Paths and places: what is read, printed and refused.
-ghost use Rattle.std.specs.Prelude.{◌≡◌};
 
 use crate::samples::{is_printed, path, place};
 use std::alloc::Global;
 use std::marker::Brand;
 use std::sync::ledger::{Blank, Ledger};
-use std::test::Fail;
 use tx_base::Steps;
-use tx_samples::tree_of;
+use tx_samples::{Row, first_untrue, tree_of};
 use tx_tree::{Path, PathFault, Place, PlaceFault, Tree};
 
 // A path of so many numbers.
@@ -50,14 +48,13 @@ fn read_of(alloc: Global, count: usize) -> Option<usize> {
 }
 
 #[test]
-fn paths_are_read_and_printed(rt: HostRuntime) -> Result<(), Fail> {
+fn paths_are_read_and_printed(rt: HostRuntime) {
     assert_eq!(rt; first_wrong_path(rt.alloc(), PATHS), None);
     assert_eq!(rt; read_of(rt.alloc(), 400), Some(400));
-    Ok(())
 }
 
 // Words that are no paths, and where that shows.
-const REFUSED: &[(&str, usize)] = &[
+const REFUSED_PATHS: &[(&str, usize)] = &[
     ("", 0),
     ("x", 0),
     ("0/1", 0),
@@ -89,10 +86,9 @@ fn fault_of(alloc: Global, count: usize) -> Option<PathFault> {
 }
 
 #[test]
-fn paths_that_are_refused(rt: HostRuntime) -> Result<(), Fail> {
-    assert_eq!(rt; first_unrefused(rt.alloc(), REFUSED), None);
+fn paths_that_are_refused(rt: HostRuntime) {
+    assert_eq!(rt; first_unrefused(rt.alloc(), REFUSED_PATHS), None);
     assert_eq!(rt; fault_of(rt.alloc(), 401), Some(PathFault::BadPath(800)));
-    Ok(())
 }
 
 // The path is empty, and has the numbers 4 and 5 then.
@@ -118,33 +114,34 @@ fn grows_and_shrinks(alloc: Global) -> Option<bool> {
 }
 
 #[test]
-fn paths_grow_and_shrink(rt: HostRuntime) -> Result<(), Fail> {
+fn paths_grow_and_shrink(rt: HostRuntime) {
     assert_eq!(rt; grows_and_shrinks(rt.alloc()), Some(true));
-    Ok(())
 }
 
 // The tree that the places and paths below are of.
 const TREE: &str = r#"(f "ab<c>d" (g ""))"#;
 
 // Places, and why they are none of the tree.
-const PLACES: &[(&str, Option<PlaceFault>)] = &[
-    ("/0", None),
-    ("/1", None),
-    ("/2", Some(PlaceFault::BadPlace(1))),
-    ("/0/0", None),
-    ("/0/2", None),
-    ("/0/3", Some(PlaceFault::CutsSymbol(3))),
-    ("/0/4", Some(PlaceFault::CutsSymbol(4))),
-    ("/0/5", None),
-    ("/0/6", None),
-    ("/0/7", Some(PlaceFault::BadPlace(6))),
-    ("/0/4294967295", Some(PlaceFault::BadPlace(6))),
-    ("/1/1", None),
-    ("/1/0/0", None),
-    ("/1/0/1", Some(PlaceFault::BadPlace(0))),
-    ("/2/0", Some(PlaceFault::NoPath(0))),
-    ("/1/1/0", Some(PlaceFault::NoPath(1))),
-    ("/0/0/9", Some(PlaceFault::NoPath(1))),
+struct PlaceFaultRow(&'static str, Option<PlaceFault>);
+
+const PLACE_FAULTS: &[PlaceFaultRow] = &[
+    PlaceFaultRow("/0", None),
+    PlaceFaultRow("/1", None),
+    PlaceFaultRow("/2", Some(PlaceFault::BadPlace(1))),
+    PlaceFaultRow("/0/0", None),
+    PlaceFaultRow("/0/2", None),
+    PlaceFaultRow("/0/3", Some(PlaceFault::CutsSymbol(3))),
+    PlaceFaultRow("/0/4", Some(PlaceFault::CutsSymbol(4))),
+    PlaceFaultRow("/0/5", None),
+    PlaceFaultRow("/0/6", None),
+    PlaceFaultRow("/0/7", Some(PlaceFault::BadPlace(6))),
+    PlaceFaultRow("/0/4294967295", Some(PlaceFault::BadPlace(6))),
+    PlaceFaultRow("/1/1", None),
+    PlaceFaultRow("/1/0/0", None),
+    PlaceFaultRow("/1/0/1", Some(PlaceFault::BadPlace(0))),
+    PlaceFaultRow("/2/0", Some(PlaceFault::NoPath(0))),
+    PlaceFaultRow("/1/1/0", Some(PlaceFault::NoPath(1))),
+    PlaceFaultRow("/0/0/9", Some(PlaceFault::NoPath(1))),
 ];
 
 // The place is printed as the word.
@@ -161,85 +158,45 @@ fn is_judged(alloc: Global, t: &Tree, word: &str, want: Option<PlaceFault>) -> O
     Some(copy.check(t).err() == want && is_spelled(alloc, &at, word))
 }
 
-fn is_told<L: Ledger>(
-    alloc: Global,
-    row: &(&str, Option<PlaceFault>),
-    steps: &mut Steps<L>,
-) -> Option<bool> {
-    let t = tree_of(alloc, TREE, steps)?;
-    is_judged(alloc, &t, row.0, row.1)
-}
-
-fn first_wrong_place<L: Ledger>(
-    alloc: Global,
-    rows: &[(&str, Option<PlaceFault>)],
-    blank: Blank,
-) -> Option<usize>
-    requires name { blank.name ≡ L.name }
-    requires parts { blank.parts ≡ L.parts }
-    requires whole { blank.parts ≡ 1 }
-{
-    let mut steps = Steps::<L>::new(blank);
-    for (number, row) in rows.iter().enumerate() {
-        if is_told(alloc, row, &mut steps) != Some(true) {
-            return Some(number);
-        }
+impl Row for PlaceFaultRow {
+    fn holds<L: Ledger>(&self, alloc: Global, steps: &mut Steps<L>) -> Option<bool> {
+        let t = tree_of(alloc, TREE, steps)?;
+        is_judged(alloc, &t, self.0, self.1)
     }
-    None
 }
 
 #[test]
-fn places_of_a_tree(rt: HostRuntime) -> Result<(), Fail> {
-    let wrong = first_wrong_place::<Brand>(rt.alloc(), PLACES, Blank::new(1));
+fn places_of_a_tree(rt: HostRuntime) {
+    let wrong = first_untrue::<Brand, _>(rt.alloc(), PLACE_FAULTS, Blank::new(1));
     assert_eq!(rt; wrong, None);
-    Ok(())
 }
 
 // Paths, and the sizes of the subtrees that they lead to.
-const SIZES: &[(&str, Option<u64>)] = &[
-    ("/", Some(10)),
-    ("/0", Some(7)),
-    ("/1", Some(2)),
-    ("/1/0", Some(1)),
-    ("/2", None),
-    ("/0/0", None),
-    ("/1/1", None),
+struct SizeRow(&'static str, Option<u64>);
+
+const SIZES: &[SizeRow] = &[
+    SizeRow("/", Some(10)),
+    SizeRow("/0", Some(7)),
+    SizeRow("/1", Some(2)),
+    SizeRow("/1/0", Some(1)),
+    SizeRow("/2", None),
+    SizeRow("/0/0", None),
+    SizeRow("/1/1", None),
 ];
 
-fn has_size<L: Ledger>(
-    alloc: Global,
-    row: &(&str, Option<u64>),
-    steps: &mut Steps<L>,
-) -> Option<bool> {
-    let t = tree_of(alloc, TREE, steps)?;
-    let q = path(alloc, row.0)?;
-    match t.at(&q) {
-        Some(s) => Some(row.1 == Some(s.size())),
-        None => Some(row.1.is_none()),
-    }
-}
-
-fn first_wrong_size<L: Ledger>(
-    alloc: Global,
-    rows: &[(&str, Option<u64>)],
-    blank: Blank,
-) -> Option<usize>
-    requires name { blank.name ≡ L.name }
-    requires parts { blank.parts ≡ L.parts }
-    requires whole { blank.parts ≡ 1 }
-{
-    let mut steps = Steps::<L>::new(blank);
-    for (number, row) in rows.iter().enumerate() {
-        if has_size(alloc, row, &mut steps) != Some(true) {
-            return Some(number);
+impl Row for SizeRow {
+    fn holds<L: Ledger>(&self, alloc: Global, steps: &mut Steps<L>) -> Option<bool> {
+        let t = tree_of(alloc, TREE, steps)?;
+        let q = path(alloc, self.0)?;
+        match t.at(&q) {
+            Some(s) => Some(self.1 == Some(s.size())),
+            None => Some(self.1.is_none()),
         }
     }
-    None
 }
 
 #[test]
-fn subtrees_at_paths(rt: HostRuntime) -> Result<(), Fail> {
-    let wrong = first_wrong_size::<Brand>(rt.alloc(), SIZES, Blank::new(1));
+fn subtrees_at_paths(rt: HostRuntime) {
+    let wrong = first_untrue::<Brand, _>(rt.alloc(), SIZES, Blank::new(1));
     assert_eq!(rt; wrong, None);
-    Ok(())
 }

@@ -1,12 +1,11 @@
 // The place behind every column of every row of small documents.
-ghost use Rattle.std.specs.Prelude.{◌≡◌};
 
 use crate::told::{line_told, place_told, view_of};
 use std::alloc::Global;
 use std::marker::Brand;
 use std::sync::ledger::{Blank, Ledger};
-use std::test::Fail;
 use tx_base::Steps;
+use tx_samples::{Row, first_untrue};
 use tx_view::View;
 
 // The width of pages. They have five rows.
@@ -14,9 +13,11 @@ const WIDTH: u32 = 20;
 
 // Buffers, and their rows. Each row is its line between strokes, and then the places behind its columns, where a dot is
 // the place of the column before.
-const ROWS: &[(&str, &str)] = &[
+struct ColumnsRow(&'static str, &'static str);
+
+const ROWS: &[ColumnsRow] = &[
     // a cluster of two cells, a space that stands on no line, columns behind a line's end, a second unit
-    (
+    ColumnsRow(
         "d (document \"the <#4E2D>x fox and the lazy dog\" \"b\")",
         "|the \u{4e2d}x fox and the| /0/0 /0/1 /0/2 /0/3 /0/4. /0/11 /0/12 /0/13 /0/14 /0/15 /0/16 /0/17 /0/18 /0/19 \
             /0/20 /0/21 /0/22 /0/23 /0/24\
@@ -24,7 +25,7 @@ const ROWS: &[(&str, &str)] = &[
         |b| /1/0 /1/1..................",
     ),
     // a unit without clusters, cells before a line, brackets and a gap without a place, clusters that have none
-    (
+    ColumnsRow(
         "d (document (assign \"f\" (macro \"x\" (concat \"[\" (arg \"x\") \"]\"))) \
             (with \"par-left\" \"2spc\" (concat (f \"ab\") (hspace \"2spc\") \"c\")) (g))",
         "|| /0/0...................\
@@ -32,7 +33,7 @@ const ROWS: &[(&str, &str)] = &[
         |<g>| /2/0...................",
     ),
     // a body that isn't the root, a line in the middle, an empty line in a unit, rows on a second page
-    (
+    ColumnsRow(
         "d (document (style \"s\") (body (document (center \"ab\") (concat \"x\" (next-line) (next-line) \"y\") \
             \"z\" \"w\")));s (document (assign \"v\" \"x\"))",
         "|         ab| /1/0/0/0/0......... /1/0/0/0/1 /1/0/0/0/2........\
@@ -77,26 +78,15 @@ fn are_placed(alloc: Global, view: &View, rows: &str) -> Option<bool> {
     Some(past && rows_told(alloc, view)?.as_str() == rows)
 }
 
-fn is_placed<L: Ledger>(alloc: Global, row: &(&str, &str), steps: &mut Steps<L>) -> Option<bool> {
-    let view = view_of(alloc, row.0, (WIDTH, 5), steps)?;
-    are_placed(alloc, &view, row.1)
-}
-
-fn not_placed<L: Ledger>(alloc: Global, blank: Blank) -> Option<usize>
-    requires name { blank.name ≡ L.name }
-    requires parts { blank.parts ≡ L.parts }
-    requires whole { blank.parts ≡ 1 }
-{
-    let mut steps = Steps::<L>::new(blank);
-    for (i, row) in ROWS.iter().enumerate() {
-        if is_placed(alloc, row, &mut steps) != Some(true) {
-            return Some(i);
-        }
+impl Row for ColumnsRow {
+    fn holds<L: Ledger>(&self, alloc: Global, steps: &mut Steps<L>) -> Option<bool> {
+        let view = view_of(alloc, self.0, (WIDTH, 5), steps)?;
+        are_placed(alloc, &view, self.1)
     }
-    None
 }
 
 #[test]
 fn every_column_of_every_row(rt: HostRuntime) {
-    assert_eq!(rt; not_placed::<Brand>(rt.alloc(), Blank::new(1)), None);
+    let wrong = first_untrue::<Brand, _>(rt.alloc(), ROWS, Blank::new(1));
+    assert_eq!(rt; wrong, None);
 }

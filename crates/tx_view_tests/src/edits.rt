@@ -8,56 +8,55 @@ use crate::told::view_on;
 use std::alloc::Global;
 use std::marker::Brand;
 use std::sync::ledger::{Blank, Ledger};
-use std::test::Fail;
 use tx_base::Steps;
 use tx_doc::Buffer;
 use tx_mod::Mod;
-use tx_samples::{told_buffers, tree_of};
+use tx_samples::{Row, first_untrue, told_buffers, tree_of};
 use tx_tree::{Path, Tree};
 
 // Buffers, the path of a paragraph of the document, the tree that is put there, and the steps of the refresh behind it.
-type Edit = (&'static str, &'static str, &'static str, u64);
+struct EditRow(&'static str, &'static str, &'static str, u64);
 
 // A text of n bytes is charged n + 1, and as many items are laid out as it shows clusters.
-const EDITS: &[Edit] = &[
-    ("d (document \"ab\" \"x\" \"c\")", "/1", "\"cde\"", 7),
-    ("d (document \"ab\" \"x\" \"c\")", "/0", "\"\"", 1),
-    ("d (document \"ab\" (g))", "/0", "\"<#4E2D>y\"", 11),
+const EDITS: &[EditRow] = &[
+    EditRow("d (document \"ab\" \"x\" \"c\")", "/1", "\"cde\"", 7),
+    EditRow("d (document \"ab\" \"x\" \"c\")", "/0", "\"\"", 1),
+    EditRow("d (document \"ab\" (g))", "/0", "\"<#4E2D>y\"", 11),
 ];
 
 // Of a paragraph with parts the one that changes is charged alone, and laid out alone.
-const NESTED: &[Edit] = &[
-    (
+const NESTED_EDITS: &[EditRow] = &[
+    EditRow(
         "d (document (document \"ab\" \"cd\" \"e\") \"z\")",
         "/0/2",
         "\"xy\"",
         5,
     ),
-    (
+    EditRow(
         "d (document (with \"color\" \"red\" (document \"ab\" \"c\")) \"z\")",
         "/0/2/1",
         "\"de\"",
         5,
     ),
-    (
+    EditRow(
         "d (with \"color\" \"red\" (document \"ab\" \"c\"))",
         "/2/1",
         "\"de\"",
         5,
     ),
-    (
+    EditRow(
         "d (document (body (with \"color\" \"red\" (document \"ab\" \"c\"))))",
         "/0/0/2/1",
         "\"de\"",
         5,
     ),
-    (
+    EditRow(
         "d (document (body (document (document \"ab\" \"c\") \"z\")))",
         "/0/0/0/1",
         "\"de\"",
         5,
     ),
-    (
+    EditRow(
         "d (document \"z\" (document (with \"x\" \"1\" \"ab\") (document \"cd\" \"e\")))",
         "/1/1/1",
         "\"fgh\"",
@@ -107,7 +106,7 @@ fn work_of_edit<L: Ledger>(
 fn is_edit_of<L: Ledger>(
     alloc: Global,
     buffers: &[Buffer],
-    row: &Edit,
+    row: &EditRow,
     steps: &mut Steps<L>,
 ) -> Option<bool> {
     if buffers.is_empty() {
@@ -118,31 +117,17 @@ fn is_edit_of<L: Ledger>(
     Some(work == row.3)
 }
 
-fn is_edit<L: Ledger>(alloc: Global, row: &Edit, steps: &mut Steps<L>) -> Option<bool> {
-    let buffers = told_buffers(alloc, row.0, steps)?;
-    is_edit_of(alloc, &buffers, row, steps)
-}
-
-// The number of the first row with other steps.
-fn not_edited<L: Ledger>(alloc: Global, rows: &[Edit], blank: Blank) -> Option<usize>
-    requires name { blank.name ≡ L.name }
-    requires parts { blank.parts ≡ L.parts }
-    requires whole { blank.parts ≡ 1 }
-{
-    let mut steps = Steps::<L>::new(blank);
-    for (i, row) in rows.iter().enumerate() {
-        if is_edit(alloc, row, &mut steps) != Some(true) {
-            return Some(i);
-        }
+impl Row for EditRow {
+    fn holds<L: Ledger>(&self, alloc: Global, steps: &mut Steps<L>) -> Option<bool> {
+        let buffers = told_buffers(alloc, self.0, steps)?;
+        is_edit_of(alloc, &buffers, self, steps)
     }
-    None
 }
 
 #[test]
 fn work_of_one_paragraph(rt: HostRuntime) {
-    assert_eq!(rt; not_edited::<Brand>(rt.alloc(), EDITS, Blank::new(1)), None);
-    assert_eq!(rt;
-        not_edited::<Brand>(rt.alloc(), NESTED, Blank::new(1)),
-        None
-    );
+    let wrong = first_untrue::<Brand, _>(rt.alloc(), EDITS, Blank::new(1));
+    assert_eq!(rt; wrong, None);
+    let nested = first_untrue::<Brand, _>(rt.alloc(), NESTED_EDITS, Blank::new(1));
+    assert_eq!(rt; nested, None);
 }

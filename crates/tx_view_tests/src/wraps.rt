@@ -10,17 +10,16 @@ use crate::told::{errors_told, pages_told, stops_told, view_of, view_on};
 use std::alloc::Global;
 use std::marker::Brand;
 use std::sync::ledger::{Blank, Ledger};
-use std::test::Fail;
 use tx_base::Steps;
 use tx_doc::Buffer;
 use tx_mod::{Mod, apply_and_inverse};
-use tx_samples::{told_buffers, tree_of};
+use tx_samples::{Row, first_untrue, told_buffers, tree_of};
 use tx_tree::{Path, Tree};
 use tx_view::View;
 
 // Buffers; the path of a subtree of the document, the number of the child that it becomes, and the node that it is put
 // into; the buffers then; and the steps of the refreshes behind that and behind its undoing.
-type Wrap = (
+struct WrapRow(
     &'static str,
     (&'static str, u32, &'static str),
     &'static str,
@@ -28,72 +27,72 @@ type Wrap = (
 );
 
 // A text of n bytes is charged n + 1, and as many items are laid out as it shows clusters.
-const WRAPS: &[Wrap] = &[
+const WRAPS: &[WrapRow] = &[
     // one paragraph, and all
-    (
+    WrapRow(
         "d (document \"ab\" \"x\" \"c\")",
         ("/1", 0, "(document)"),
         "d (document \"ab\" (document \"x\") \"c\")",
         (0, 0),
     ),
-    (
+    WrapRow(
         "d (document (concat \"a\" (em \"b\")) (g))",
         ("/0", 0, "(document)"),
         "d (document (document (concat \"a\" (em \"b\"))) (g))",
         (0, 0),
     ),
-    (
+    WrapRow(
         "d (document \"ab\" \"x\" \"c\")",
         ("/", 0, "(document)"),
         "d (document (document \"ab\" \"x\" \"c\"))",
         (0, 0),
     ),
-    (
+    WrapRow(
         "d (document (body (document \"ab\" \"x\" \"c\")))",
         ("/0/0", 0, "(document)"),
         "d (document (body (document (document \"ab\" \"x\" \"c\"))))",
         (0, 0),
     ),
     // a `with` that sets an attribute: all items are laid out anew, unless it is what it was
-    (
+    WrapRow(
         "d (document \"ab\" \"x\" \"c\")",
         ("/", 2, "(with \"color\" \"red\")"),
         "d (with \"color\" \"red\" (document \"ab\" \"x\" \"c\"))",
         (4, 4),
     ),
-    (
+    WrapRow(
         "d (document \"ab\" \"x\" \"c\")",
         ("/0", 2, "(with \"par-left\" \"2spc\")"),
         "d (document (with \"par-left\" \"2spc\" \"ab\") \"x\" \"c\")",
         (2, 2),
     ),
-    (
+    WrapRow(
         "d (document \"ab\" \"x\" \"c\")",
         ("/", 2, "(with \"color\" \"black\")"),
         "d (with \"color\" \"black\" (document \"ab\" \"x\" \"c\"))",
         (0, 0),
     ),
     // one that sets another name, and one that sets what a part looks up
-    (
+    WrapRow(
         "d (document \"ab\" \"x\" \"c\")",
         ("/", 2, "(with \"n\" \"1\")"),
         "d (with \"n\" \"1\" (document \"ab\" \"x\" \"c\"))",
         (0, 0),
     ),
-    (
+    WrapRow(
         "d (document (assign \"n\" \"1\") (value \"n\") \"x\")",
         ("/1", 2, "(with \"n\" \"23\")"),
         "d (document (assign \"n\" \"1\") (with \"n\" \"23\" (value \"n\")) \"x\")",
         (8, 6),
     ),
     // beside new parts, and in a node that isn't gone into
-    (
+    WrapRow(
         "d (document (document \"ab\" \"x\") \"c\")",
         ("/0", 1, "(document \"yz\" \"\")"),
         "d (document (document \"yz\" (document \"ab\" \"x\") \"\") \"c\")",
         (6, 0),
     ),
-    (
+    WrapRow(
         "d (document \"ab\" \"x\")",
         ("/0", 0, "(concat)"),
         "d (document (concat \"ab\") \"x\")",
@@ -236,7 +235,7 @@ fn wrap_of<L: Ledger>(
 fn is_wrapped_in<L: Ledger>(
     alloc: Global,
     buffers: &[Buffer],
-    row: &Wrap,
+    row: &WrapRow,
     steps: &mut Steps<L>,
 ) -> Option<bool> {
     if buffers.is_empty() {
@@ -247,27 +246,15 @@ fn is_wrapped_in<L: Ledger>(
     Some(works == row.3)
 }
 
-fn is_wrapped<L: Ledger>(alloc: Global, row: &Wrap, steps: &mut Steps<L>) -> Option<bool> {
-    let buffers = told_buffers(alloc, row.0, steps)?;
-    is_wrapped_in(alloc, &buffers, row, steps)
-}
-
-// The number of the first row that doesn't hold.
-fn not_wrapped<L: Ledger>(alloc: Global, blank: Blank) -> Option<usize>
-    requires name { blank.name ≡ L.name }
-    requires parts { blank.parts ≡ L.parts }
-    requires whole { blank.parts ≡ 1 }
-{
-    let mut steps = Steps::<L>::new(blank);
-    for (i, row) in WRAPS.iter().enumerate() {
-        if is_wrapped(alloc, row, &mut steps) != Some(true) {
-            return Some(i);
-        }
+impl Row for WrapRow {
+    fn holds<L: Ledger>(&self, alloc: Global, steps: &mut Steps<L>) -> Option<bool> {
+        let buffers = told_buffers(alloc, self.0, steps)?;
+        is_wrapped_in(alloc, &buffers, self, steps)
     }
-    None
 }
 
 #[test]
 fn paragraphs_that_are_wrapped(rt: HostRuntime) {
-    assert_eq!(rt; not_wrapped::<Brand>(rt.alloc(), Blank::new(1)), None);
+    let wrong = first_untrue::<Brand, _>(rt.alloc(), WRAPS, Blank::new(1));
+    assert_eq!(rt; wrong, None);
 }

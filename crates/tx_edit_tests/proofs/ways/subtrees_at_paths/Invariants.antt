@@ -1,4 +1,4 @@
 use Rattle.tx_edit_tests.proofs.ways.subtrees_at_paths.Given as goal
 
-abbrev pub ghosts-first_wrong_size : goal.ghosts-first_wrong_size
-ghosts-first_wrong_size g a = record { name = a.blank.name; parts = a.blank.parts }
+abbrev pub ghosts-first_untrue : goal.ghosts-first_untrue
+ghosts-first_untrue g a = record { name = a.blank.name; parts = a.blank.parts }

@@ -1,4 +1,4 @@
 use Rattle.tx_view_tests.proofs.budgets.budget_of_a_view.Given as goal
 
-abbrev pub ghosts-not_told : goal.ghosts-not_told
-ghosts-not_told g a = record { name = a.blank.name; parts = a.blank.parts }
+abbrev pub ghosts-first_untrue : goal.ghosts-first_untrue
+ghosts-first_untrue g a = record { name = a.blank.name; parts = a.blank.parts }
