@@ -21,13 +21,13 @@ invariant_of-result g c =
     let blank : AreBlank us xs =
     subst (λ (vs : List DocUnit). AreBlank vs xs) c.deref.ensures.value c.in_ok-hidden.ensures in
     stale _ (record {
-      some = omega (arith, ap length c.in_ok-shared.ensures, c.requires.some);
-      few = omega (arith, ap length c.in_ok-shared.ensures, c.requires.few);
+      some = omega (arith, ap length c.in_ok-share_buffers.ensures, c.requires.some);
+      few = omega (arith, ap length c.in_ok-share_buffers.ensures, c.requires.few);
       least_width = c.requires.least_width;
       most_width = c.requires.most_width;
       least_height = c.requires.least_height;
       most_height = c.requires.most_height;
-      of_buffers = c.in_ok-start.ensures.units ∙ c.in_ok-made.ensures.units ∙ ap units (sym c.in_ok-shared.ensures);
+      of_buffers = c.in_ok-start.ensures.units ∙ c.in_ok-made.ensures.units ∙ ap units (sym c.in_ok-share_buffers.ensures);
     }) refl c.new.ensures.items c.in_ok-nothing_paged.ensures.rows c.in_ok-nothing_paged.ensures.errors
     (subst (λ (es : Kept). AreLaid c.args.width es c.in_ok-start.field-0.parts xs)
     (sym (c.in_ok-start.ensures.empty ∙ empty_is us))
@@ -48,7 +48,7 @@ returns-clause-view g c =
     let none : DocUnit → KeptParts = λ u. [] in
     let none_at : DocUnit → List LaidAt = λ u. [] in
     let v : Inside = record {
-      buffers = c.in_ok-shared.field-0;
+      buffers = c.in_ok-share_buffers.field-0;
       width = c.args.width;
       height = c.args.height;
       fresh = false;
@@ -62,7 +62,7 @@ returns-clause-view g c =
     } in
     stale_view v c.args.buffers.now (nothing_kept (units c.args.buffers.now)) (map none (units c.args.buffers.now))
     (map nothing (units c.args.buffers.now)) (map none_at (units c.args.buffers.now)) [] [] refl
-    c.new.ensures.items c.in_ok-nothing_paged.ensures.pages c.in_ok-shared.ensures
+    c.new.ensures.items c.in_ok-nothing_paged.ensures.pages c.in_ok-share_buffers.ensures
     (c.in_ok-start.ensures.empty ∙ empty_is us ∙ ap nothing_kept c.in_ok-made.ensures.units)
     (c.in_ok-start.ensures.parts ∙ empty_parts_is us ∙ ap (map none) c.in_ok-made.ensures.units)
     (blank_attributes us xs blank ∙ ap (map nothing) c.in_ok-made.ensures.units)
