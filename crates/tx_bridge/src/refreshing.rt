@@ -211,7 +211,6 @@ impl Bridges {
     /// spare, and one for each node of what the layers' names are set to by these trees, whatever is kept of the whole.
     /// So another refresh with this opener, at which names have the same, is charged nothing for layers. A paragraph is
     /// reached also where its parts aren't those that were kept, as after a refresh with another opener.
-    #[tactic(auto, unfolding(crate::specs::Names::EndFrom))]
     pub fn refresh_with<O: Opener, L: Ledger>(
         &mut self,
         alloc: Global,

@@ -1,7 +1,7 @@
 use Rattle.std.proofs.Common.{◌≡◌, ◌≤◌, ℕ, arith}
 use Rattle.std.specs.Prelude.{option_copied}
 use Rattle.tx_parts.specs.Opening.{shells_by}
-use Rattle.tx_bridge.specs.Names.{ChargeBy, BoundBy}
+use Rattle.tx_bridge.specs.Names.{ChargeBy, BoundBy, EndFrom}
 use Rattle.tx_bridge.specs.Spares.{spares_of}
 use Rattle.tx_bridge.proofs.Partway.{IfOk-with}
 use Rattle.tx_bridge.proofs.bridges.Bridges.refresh_with.Goals as goal
@@ -74,6 +74,7 @@ pub returns-clause-strays_stay : goal.returns-clause-strays_stay
 returns-clause-strays_stay g c = c.refresh_by.ensures.strays_stay
 
 pub returns-clause-end : goal.returns-clause-end
+unfolding EndFrom
 returns-clause-end g c = c.refresh_by.ensures.end
 
 pub returns-clause-end_stays : goal.returns-clause-end_stays
