@@ -15,6 +15,7 @@ use Rattle.tx_part_layout.specs.declared.laying.Laying.{Laying}
 use Rattle.tx_part_layout.specs.declared.settings.Frame.{Frame}
 use Rattle.tx_part_layout.specs.LaidParts.{laid_from, shown_from, laid_paragraphs, items_anew}
 use Rattle.tx_part_layout.specs.Laying.{HasLaid, left_values, given_back_by}
+use Rattle.tx_part_layout.specs.Slots.{placed_by}
 use Rattle.tx_part_layout.proofs.Blanks.{frame_more}
 use Rattle.tx_part_layout.proofs.Growing.{nothing_laid}
 
@@ -53,6 +54,7 @@ some_level (suc k) n h e = omega (arith, e)
 -- the same unit so far
 pub record IsSameUnit (x z : Laying) : Type 0 where
   pub next : z.next ≡ x.next
+  pub slots : z.slots ≡ x.slots
   pub unit : z.unit ≡ x.unit
 
 around : (old : List PlacedPart) (parts : List DonePart) (r : PartsShown) (x u v y : Laying) (a : Attrs) →
@@ -65,11 +67,11 @@ around old parts r x u v y a m h n attrs frames =
       attrs = attrs;
       frames = frames;
       laid =
-          ap (λ (w : LaidUnit). map laid_from w.parts.items) n.unit ∙ h.laid
-          ∙ ap (λ (w : LaidUnit). map laid_from w.parts.items ++ map shown_from r.each) m.unit;
+          ap (λ ss. map laid_from (placed_by old ss.items)) n.slots ∙ h.laid
+          ∙ ap (λ ss. map laid_from (placed_by old ss.items) ++ map shown_from r.each) m.slots;
       paragraphs =
-          ap (λ (w : LaidUnit). map laid_paragraphs w.parts.items) n.unit ∙ h.paragraphs
-          ∙ ap (λ (w : LaidUnit). map laid_paragraphs w.parts.items ++ map own_paragraphs r.each) m.unit;
+          ap (λ ss. map laid_paragraphs (placed_by old ss.items)) n.slots ∙ h.paragraphs
+          ∙ ap (λ ss. map laid_paragraphs (placed_by old ss.items) ++ map own_paragraphs r.each) m.slots;
       errors =
           ap (λ (w : LaidUnit). w.errors.items) n.unit ∙ h.errors
           ∙ ap (λ (w : LaidUnit). w.errors.items ++ flat_map part_errors r.each) m.unit;

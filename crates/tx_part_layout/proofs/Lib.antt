@@ -6,6 +6,9 @@ mod Few
 mod Reusing
 mod Blanks
 mod SoFar
+mod Stacking
+mod Lowered
+mod SlotOf
 mod Growing
 mod OnePart
 mod Levels

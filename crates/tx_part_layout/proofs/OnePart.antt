@@ -13,7 +13,7 @@ use Rattle.tx_part_layout.specs.declared.laid.PlacedPart.{PlacedPart}
 use Rattle.tx_part_layout.specs.declared.laying.Laying.{Laying}
 use Rattle.tx_part_layout.specs.LaidParts.{IsLaidPart, LaidFrom, laid_from, shown_from, laid_paragraphs, done_value}
 use Rattle.tx_part_layout.specs.LaidParts.{is_reused, items_in, items_anew}
-use Rattle.tx_part_layout.specs.Laying.{HasLaid, left_values, given_back_by}
+use Rattle.tx_part_layout.specs.Laying.{HasLaid, left_values, given_back_by, so_far}
 use Rattle.tx_part_layout.proofs.Growing.{none_anew}
 
 -- the next part is laid out, with so many items anew
@@ -29,7 +29,7 @@ pub record OnePart (width : ℕ) (old : List PlacedPart) (d : DonePart) (q : Pla
   pub next : y.next ≡ x.next + 1
   pub attrs : y.attrs ≡ q.laid.value.after
   pub frames : y.frames.items ≡ x.frames.items
-  pub parts : y.unit.parts.items ≡ x.unit.parts.items ++ q ∷ []
+  pub parts : so_far old y ≡ so_far old x ++ q ∷ []
   pub errors : y.unit.errors.items ≡ x.unit.errors.items ++ q.laid.value.errors.items
   pub rest : y.unit.paragraphs.items ≡ x.unit.paragraphs.items
   pub rest_lines : y.unit.lines ≡ x.unit.lines
@@ -60,17 +60,17 @@ module _ (width : ℕ) (old : List PlacedPart) (ds : List DonePart) (d : DonePar
   pub one_attrs : y.attrs ≡ (show x.attrs d.trace.value).after
   one_attrs = o.attrs ∙ o.laid.after ∙ ap (λ (z : Shown). z.after) shows
 
-  pub one_from : map laid_from y.unit.parts.items ≡ map laid_from x.unit.parts.items ++ shown_from (next_shown x d) ∷ []
+  pub one_from : map laid_from (so_far old y) ≡ map laid_from (so_far old x) ++ shown_from (next_shown x d) ∷ []
   one_from =
-      ap (map laid_from) o.parts ∙ map-append laid_from x.unit.parts.items (q ∷ [])
-      ∙ ap (λ f. map laid_from x.unit.parts.items ++ f ∷ [])
+      ap (map laid_from) o.parts ∙ map-append laid_from (so_far old x) (q ∷ [])
+      ∙ ap (λ f. map laid_from (so_far old x) ++ f ∷ [])
       (laid_from_is q (shown_from (next_shown x d)) o.path o.value o.before)
 
-  pub one_paragraphs : map laid_paragraphs y.unit.parts.items
-      ≡ map laid_paragraphs x.unit.parts.items ++ own_paragraphs (next_shown x d) ∷ []
+  pub one_paragraphs : map laid_paragraphs (so_far old y)
+      ≡ map laid_paragraphs (so_far old x) ++ own_paragraphs (next_shown x d) ∷ []
   one_paragraphs =
-      ap (map laid_paragraphs) o.parts ∙ map-append laid_paragraphs x.unit.parts.items (q ∷ [])
-      ∙ ap (λ ps. map laid_paragraphs x.unit.parts.items ++ ps ∷ []) o.own
+      ap (map laid_paragraphs) o.parts ∙ map-append laid_paragraphs (so_far old x) (q ∷ [])
+      ∙ ap (λ ps. map laid_paragraphs (so_far old x) ++ ps ∷ []) o.own
 
   pub one_errors : y.unit.errors.items ≡ x.unit.errors.items ++ flat_map part_errors (next_shown x d ∷ [])
   one_errors =

@@ -87,11 +87,11 @@ kept_is : (r : Bool) (o : Option Attrs) (b a : Attrs) → r ≡ false → o ≡ 
 kept_is r o b a e f = ap (λ x. not x && is_before o a) e ∙ ap (λ x. is_before x a) f
 
 pub reused_is : (old : List PlacedPart) (d : DonePart) (a : Attrs) (i : ℕ) (p : PlacedPart) → IsAt old d.path i →
-    slice_get old i ≡ Some p → d.renewed ≡ false → is_before (Some p.laid.value.before) a ≡ true → IsReused old d a p
+    slice_get old i ≡ Some p → d.renewed ≡ false → is_before (Some p.laid.value.before) a ≡ true → IsReused old d a i
 reused_is old d a i p at h r e =
     let same : at.part ≡ p = some_same at.part p (sym at.there ∙ h) in
     record {
-      number = i;
+      part = p;
       there = h;
       stands = ap (λ (q : PlacedPart). q.path) (sym same) ∙ at.stands;
       kept = r;

@@ -18,7 +18,9 @@ use Rattle.tx_part_layout.specs.declared.laying.Laying.{Laying}
 use Rattle.tx_part_layout.specs.LaidParts.{IsLaidPart, AreBelow, LaidFrom, laid_from, shown_from, laid_paragraphs}
 use Rattle.tx_part_layout.specs.LaidParts.{placed_paragraphs, done_value, items_anew}
 use Rattle.tx_part_layout.specs.LaidParts.{whole_shown, IsLaidUnit, ShowsValue}
-use Rattle.tx_part_layout.specs.Laying.{HasLaid, IsRightSoFar, left_values, given_back_by}
+use Rattle.tx_part_layout.specs.declared.laid.LaidUnit.{LaidUnit}
+use Rattle.tx_part_layout.specs.Laying.{HasLaid, IsRightSoFar, left_values, given_back_by, so_far}
+use Rattle.tx_part_layout.specs.Slots.{placed_by}
 use Rattle.tx_part_layout.proofs.Lining.{Deeper, both_lines, lines_in_place}
 
 -- at the start nothing is laid out
@@ -26,19 +28,19 @@ pub record Starts (a : Attrs) (x : Laying) : Type 0 where
   pub attrs : x.attrs ≡ a
   pub frames : x.frames.items ≡ []
   pub next : x.next ≡ 0
-  pub parts : x.unit.parts.items ≡ []
+  pub slots : x.slots.items ≡ []
   pub errors : x.unit.errors.items ≡ []
   pub items : x.unit.items ≡ 0
 
 -- at the end of a unit
-pub record Ends (width : ℕ) (y z : Laying) : Type 0 where
-  pub right : IsRightSoFar width y
-  pub paragraphs : placed_paragraphs z.unit.parts.items ++ z.unit.paragraphs.items
-      ≡ or_one y.attrs (placed_paragraphs y.unit.parts.items)
-  pub lines : AreLines width z.unit.paragraphs.items z.unit.lines
-  pub parts : z.unit.parts ≡ y.unit.parts
-  pub errors : z.unit.errors ≡ y.unit.errors
-  pub items : z.unit.items ≡ y.unit.items
+pub record Ends (width : ℕ) (old : List PlacedPart) (y : Laying) (u : LaidUnit) : Type 0 where
+  pub right : IsRightSoFar width old y
+  pub paragraphs : placed_paragraphs (so_far old y) ++ u.paragraphs.items
+      ≡ or_one y.attrs (placed_paragraphs (so_far old y))
+  pub lines : AreLines width u.paragraphs.items u.lines
+  pub parts : u.parts.items ≡ so_far old y
+  pub errors : u.errors ≡ y.unit.errors
+  pub items : u.items ≡ y.unit.items
 
 -- parts that are laid out have the paragraphs of those that are shown, as they stand in the tree
 in_tree : (ps : List PlacedPart) (qs : List ShownPart) → map laid_from ps ≡ map shown_from qs →
@@ -55,10 +57,10 @@ in_tree (p ∷ ps) (q ∷ qs) e f =
     ∙ ap (λ us. map (paragraph_under q.path) us ++ placed_paragraphs ps) own
     ∙ ap (λ us. paragraphs_in_tree q ++ us) (in_tree ps qs froms owns)
 
-module _ (width : ℕ) (old : List PlacedPart) (ds : List DonePart) (a : Attrs) (t : WideTree) (x y z : Laying)
-    (start : Starts a x)
+module _ (width : ℕ) (old : List PlacedPart) (ds : List DonePart) (a : Attrs) (t : WideTree) (x y : Laying)
+    (u : LaidUnit) (start : Starts a x)
     (h : HasLaid old ds (parts_shown MOST_LEVELS (given_back_by x.frames.items) x.attrs (left_values ds x.next) t) x y)
-    (end : Ends width y z) where
+    (end : Ends width old y u) where
   abbrev s : PartsShown
   s = whole_shown a ds t
 
@@ -70,30 +72,33 @@ module _ (width : ℕ) (old : List PlacedPart) (ds : List DonePart) (a : Attrs) 
       (subst (λ fs. HasLaid old ds (parts_shown MOST_LEVELS (given_back_by fs) x.attrs (left_values ds x.next) t) x y)
       start.frames h))
 
-  froms : map laid_from y.unit.parts.items ≡ map shown_from s.each
-  froms = from_start.laid ∙ ap (λ ps. map laid_from ps ++ map shown_from s.each) start.parts
+  froms : map laid_from (so_far old y) ≡ map shown_from s.each
+  froms = from_start.laid ∙ ap (λ ss. map laid_from (placed_by old ss) ++ map shown_from s.each) start.slots
 
-  owns : map laid_paragraphs y.unit.parts.items ≡ map own_paragraphs s.each
-  owns = from_start.paragraphs ∙ ap (λ ps. map laid_paragraphs ps ++ map own_paragraphs s.each) start.parts
+  owns : map laid_paragraphs (so_far old y) ≡ map own_paragraphs s.each
+  owns =
+      from_start.paragraphs
+      ∙ ap (λ ss. map laid_paragraphs (placed_by old ss) ++ map own_paragraphs s.each) start.slots
 
-  pub whole_laid : (deeper : Deeper) → IsLaidUnit width (whole_shown a ds t) z.unit
+  pub whole_laid : (deeper : Deeper) → IsLaidUnit width (whole_shown a ds t) u
   whole_laid deeper =
       let g = from_start in
-      let same : z.unit.parts.items ≡ y.unit.parts.items = ap (λ ps. ps.items) end.parts in
+      let same : u.parts.items ≡ so_far old y = end.parts in
       let each = subst (All (λ p. IsLaidPart width p.laid.value)) (sym same) end.right.each in
       record {
         parts = ap (map laid_from) same ∙ froms;
         each = each;
         below = subst (AreBelow 0) (sym same) end.right.below;
         paragraphs =
-            end.paragraphs ∙ ap (or_one y.attrs) (in_tree y.unit.parts.items s.each froms owns)
+            ap (λ ps. placed_paragraphs ps ++ u.paragraphs.items) same ∙ end.paragraphs
+            ∙ ap (or_one y.attrs) (in_tree (so_far old y) s.each froms owns)
             ∙ ap (λ b. or_one b (flat_map paragraphs_in_tree s.each)) g.attrs;
         errors =
             ap (λ es. es.items) end.errors ∙ g.errors ∙ ap (λ es. es ++ flat_map part_errors s.each) start.errors;
-        lines = both_lines (lines_in_place deeper width z.unit.parts.items each) end.lines;
+        lines = both_lines (lines_in_place deeper width u.parts.items each) end.lines;
       }
 
-  pub whole_items : z.unit.items ≡ items_anew old ds (whole_shown a ds t).each
+  pub whole_items : u.items ≡ items_anew old ds (whole_shown a ds t).each
   whole_items =
       let g = from_start in
       end.items ∙ g.items ∙ ap (λ n. n + items_anew old (drop x.next ds) s.each) start.items
@@ -121,12 +126,12 @@ shown_by a v ds ps t each paragraphs errors same =
     subst (λ (vs : List PartValue). ShownBy a v (parts_shown MOST_LEVELS (λ b. b) a vs t) vs) same
     (record { each = each; paragraphs = paragraphs; errors = errors })
 
-pub shows_value : (width : ℕ) (a : Attrs) (v : WideValue) (ds : List DonePart) (t : WideTree) (z : Laying) →
-    IsLaidUnit width (whole_shown a ds t) z.unit → ShownBy a v (whole_shown a ds t) (map done_value ds) →
-    ShowsValue width a v ds z.unit
-shows_value width a v ds t z u h =
+pub shows_value : (width : ℕ) (a : Attrs) (v : WideValue) (ds : List DonePart) (t : WideTree) (w : LaidUnit) →
+    IsLaidUnit width (whole_shown a ds t) w → ShownBy a v (whole_shown a ds t) (map done_value ds) →
+    ShowsValue width a v ds w
+shows_value width a v ds t w u h =
     let qs = (whole_shown a ds t).each in
-    let laid = z.unit.parts.items in
+    let laid = w.parts.items in
     record {
       paths =
           map_two laid_from (λ (f : LaidFrom). f.path) laid

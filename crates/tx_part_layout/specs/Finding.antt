@@ -12,11 +12,11 @@ pub record IsAt (old : List PlacedPart) (path : List ℕ) (i : ℕ) : Type 0 whe
   pub stands : part.path ≡ path
   pub is : before_at old path ≡ Some part.laid.value.before
 
--- this was laid out of the part before these attributes
-pub record IsReused (old : List PlacedPart) (d : DonePart) (a : Attrs) (p : PlacedPart) : Type 0 where
-  pub number : ℕ
-  pub there : slice_get old number ≡ Some p
-  pub stands : p.path ≡ d.path
+-- that of this number was laid out of the part before these attributes
+pub record IsReused (old : List PlacedPart) (d : DonePart) (a : Attrs) (i : ℕ) : Type 0 where
+  pub part : PlacedPart
+  pub there : slice_get old i ≡ Some part
+  pub stands : part.path ≡ d.path
   pub kept : d.renewed ≡ false
-  pub before : p.laid.value.before ≡ a
+  pub before : part.laid.value.before ≡ a
   pub is : is_reused old d a ≡ true

@@ -51,6 +51,10 @@ done_value p = record { path = p.path; value = p.trace.value }
 
 -- ---- parts in their places
 
+-- the part at another path
+abbrev pub put_to : List ℕ → PlacedPart → PlacedPart
+put_to path p = record p { path = path }
+
 abbrev pub laid_paragraphs : PlacedPart → List Paragraph
 laid_paragraphs p = p.laid.value.paragraphs.items
 

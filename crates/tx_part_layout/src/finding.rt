@@ -55,17 +55,17 @@ fn is_at(old: &[PlacedPart], path: &Path, hint: usize) -> bool
     }
 }
 
-/// What was laid out of the part before these attributes, if it wasn't renewed. The number that is likely next is kept
-/// in `near`.
-pub(crate) fn reused<'a>(
-    old: &'a [PlacedPart],
+/// The number of what was laid out of the part before these attributes, if it wasn't renewed. The number that is likely
+/// next is kept in `near`.
+pub(crate) fn reused(
+    old: &[PlacedPart],
     part: &Part,
     attrs: &Attrs,
     near: &mut usize,
-) -> Option<&'a PlacedPart>
+) -> Option<usize>
     requires distinct { IsDistinct bytes_eq (laid_paths old.now) }
     ensures { MatchOption result (is_reused old.now part.now attrs.now ≡ false)
-        (λ p. IsReused old.now part.now attrs.now p.now) }
+        (λ i. (i < length old.now) × IsReused old.now part.now attrs.now i) }
 {
     let renewed = part.renewed;
     if renewed {
@@ -78,8 +78,8 @@ pub(crate) fn reused<'a>(
         None => None,
         Some(i) => {
             *near = i + 1;
-            if same_attrs(&old[i].laid.before, attrs) {
-                Some(&old[i])
+            if same_attrs(&old[i].brief.before, attrs) {
+                Some(i)
             } else {
                 None
             }

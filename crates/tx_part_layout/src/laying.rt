@@ -9,21 +9,24 @@ ghost use Rattle.tx_items.specs.Shows.{or_one};
 ghost use Rattle.tx_parts.specs.Openness.{Settings, Document, With, Shut, openness};
 ghost use Rattle.tx_view_form.specs.Views.{AreLines};
 ghost use Rattle.tx_part_items.specs.ShownParts.{parts_shown, shown_as, shut_shown};
+ghost use Rattle.tx_part_layout.specs.declared.laid.PlacedPart.{PlacedPart as Placed};
 ghost use Rattle.tx_part_layout.specs.LaidParts.{IsLaidPart, IsOfValue, laid_paths, placed_paragraphs};
-ghost use Rattle.tx_part_layout.specs.Laying.{HasLaid, IsRightSoFar, left_values, given_back_by};
+ghost use Rattle.tx_part_layout.specs.Laying.{HasLaid, IsAdded, IsRightSoFar, left_values, given_back_by, so_far};
+ghost use Rattle.tx_part_layout.specs.Slots.{slot_part, put_below};
+ghost use Rattle.tx_part_layout.specs.declared.slots.Slot.TheVariants.{Again, Anew};
 
-use crate::laid::{LaidPart, LaidUnit, PlacedPart};
+use crate::laid::{LaidUnit, PlacedPart};
 use crate::line_list::LineList;
-use crate::part::laid_part;
+use crate::part::next_slot;
 use crate::settings::{Frame, inner_of, restore_each, set_each, settings_of};
+use crate::slots::Slot;
 use std::alloc::Global;
 use std::mem;
-use std::rc::Rc;
 use std::sync::ledger::Ledger;
 use tx_base::{Memory, Steps};
 use tx_items::{Attrs, ErrorAt, Paragraph};
 use tx_layout::lines;
-use tx_tree::{Path, Tree};
+use tx_tree::Tree;
 use tx_view_form::weight_laws;
 use tx_walk::{Descent, Part, descent_of};
 
@@ -38,10 +41,15 @@ pub(crate) struct Laying {
     pub next: usize,
     /// The number of what was laid out before that is likely next.
     pub near: usize,
+    /// The number behind what stays so far of what was laid out before.
+    pub free: usize,
     /// How many lines are laid out.
     pub rows: u64,
     /// Whether a part has a paragraph.
     pub some: bool,
+    /// What is laid out of the parts before that one.
+    pub slots: Vec<Slot>,
+    /// What is laid out besides. Its parts come at the end.
     pub unit: LaidUnit,
 }
 
@@ -51,9 +59,10 @@ impl Laying {
         ensures attrs { result.attrs ≡ attrs }
         ensures frames { result.frames.items ≡ [] }
         ensures next { result.next ≡ 0 }
+        ensures free { result.free ≡ 0 }
         ensures rows { result.rows ≡ 0 }
         ensures some { result.some ≡ false }
-        ensures parts { result.unit.parts.items ≡ [] }
+        ensures slots { result.slots.items ≡ [] }
         ensures paragraphs { result.unit.paragraphs.items ≡ [] }
         ensures lines { result.unit.lines ≡ [] }
         ensures errors { result.unit.errors.items ≡ [] }
@@ -64,8 +73,10 @@ impl Laying {
             frames: Vec::new(alloc),
             next: 0,
             near: 0,
+            free: 0,
             rows: 0,
             some: false,
+            slots: Vec::new(alloc),
             unit: LaidUnit {
                 parts: Vec::new(alloc),
                 paragraphs: Vec::new(alloc),
@@ -90,30 +101,77 @@ fn add_errors(errors: &[ErrorAt], all: &mut Vec<ErrorAt>) -> Result<(), Memory>
     Ok(())
 }
 
-// Puts what is laid out of a part behind what is laid out of the others.
-fn add_part(path: Path, laid: Rc<LaidPart>, laying: &mut Laying) -> Result<(), Memory>
-    requires few { laying.old.rows + length laid.value.lines < 2 ^ 63 }
-    ensures parts { OnOk result (laying.new.unit.parts.items ≡ laying.old.unit.parts.items
-        ++ (record { path = path; above = laying.old.rows; laid = laid }) ∷ []) }
+// Goes behind a part that is laid out.
+fn pass(part: &PlacedPart, laying: &mut Laying) -> Result<(), Memory>
+    requires few { laying.old.rows + length part.now.laid.value.lines < 2 ^ 63 }
+    requires before { part.now.laid.value.before ≡ laying.old.attrs }
     ensures errors { OnOk result
-        (laying.new.unit.errors.items ≡ laying.old.unit.errors.items ++ laid.value.errors.items) }
-    ensures rows { OnOk result (laying.new.rows ≡ laying.old.rows + length laid.value.lines) }
+        (laying.new.unit.errors.items ≡ laying.old.unit.errors.items ++ part.now.laid.value.errors.items) }
+    ensures rows { OnOk result (laying.new.rows ≡ laying.old.rows + length part.now.laid.value.lines) }
     ensures some { OnOk result
-        (laying.new.some ≡ (laying.old.some || not (length laid.value.paragraphs.items == 0))) }
-    ensures attrs { OnOk result (laying.new.attrs ≡ laid.value.after) }
+        (laying.new.some ≡ (laying.old.some || not (length part.now.laid.value.paragraphs.items == 0))) }
+    ensures attrs { OnOk result (laying.new.attrs ≡ part.now.laid.value.after) }
+    ensures slots { OnOk result (laying.new.slots ≡ laying.old.slots) }
+    ensures free { OnOk result (laying.new.free ≡ laying.old.free) }
     ensures frames { OnOk result (laying.new.frames ≡ laying.old.frames) }
     ensures next { OnOk result (laying.new.next ≡ laying.old.next) }
     ensures rest { OnOk result (laying.new.unit.paragraphs ≡ laying.old.unit.paragraphs) }
     ensures rest_lines { OnOk result (laying.new.unit.lines ≡ laying.old.unit.lines) }
     ensures items { OnOk result (laying.new.unit.items ≡ laying.old.unit.items) }
 {
-    add_errors(&laid.errors, &mut laying.unit.errors)?;
-    laying.attrs = laid.after.copy()?;
-    laying.some = laying.some || !laid.paragraphs.is_empty();
-    let above = laying.rows;
-    laying.rows += laid.lines.all().len() as u64;
-    laying.unit.parts.push(PlacedPart { path, above, laid })?;
+    if part.brief.faulty {
+        add_errors(&part.laid.errors, &mut laying.unit.errors)?;
+    }
+    if !part.brief.plain {
+        laying.attrs = part.laid.after.copy()?;
+    }
+    laying.some = laying.some || part.brief.some;
+    laying.rows += part.brief.rows;
     Ok(())
+}
+
+// This part stays, which has the number i among those that were laid out before, below so many lines.
+fn add_again(part: &PlacedPart, i: usize, above: u64, laying: &mut Laying) -> Result<(), Memory>
+    requires number { i < 2 ^ 63 }
+    requires few { laying.old.rows + length part.now.laid.value.lines < 2 ^ 63 }
+    requires before { part.now.laid.value.before ≡ laying.old.attrs }
+    ensures { OnOk result (IsAdded (Again i above) (put_below above part.now) laying.old laying.new) }
+{
+    pass(part, laying)?;
+    laying.free = i + 1;
+    laying.slots.push(Slot::Again(i, above))?;
+    Ok(())
+}
+
+// This part is new.
+fn add_anew(part: Box<PlacedPart>, laying: &mut Laying) -> Result<(), Memory>
+    requires few { laying.old.rows + length part.value.laid.value.lines < 2 ^ 63 }
+    requires before { part.value.laid.value.before ≡ laying.old.attrs }
+    ensures { OnOk result (IsAdded (Anew part) part.value laying.old laying.new) }
+{
+    pass(&part, laying)?;
+    laying.slots.push(Slot::Anew(part))?;
+    Ok(())
+}
+
+// Puts what is laid out of a part behind what is laid out of the others.
+fn add_slot(old: &[PlacedPart], slot: Slot, laying: &mut Laying) -> Result<(), Memory>
+    requires few { (q : Placed) → slot_part old.now slot ≡ Some q
+        → laying.old.rows + length q.laid.value.lines < 2 ^ 63 }
+    requires there { (q : Placed) × (slot_part old.now slot ≡ Some q)
+        × (q.laid.value.before ≡ laying.old.attrs) }
+    ensures { (q : Placed) → slot_part old.now slot ≡ Some q
+        → OnOk result (IsAdded slot q laying.old laying.new) }
+{
+    match slot {
+        Slot::Again(i, above) => {
+            let Some(part) = old.get(i) else {
+                unreachable!()
+            };
+            add_again(part, i, above, laying)
+        }
+        Slot::Anew(part) => add_anew(part, laying),
+    }
 }
 
 // Lays the next part out, if there is one. It can be any tree.
@@ -132,11 +190,11 @@ fn next_part<L: Ledger>(
     requires distinct { IsDistinct bytes_eq (laid_paths old.now) }
     requires laid { All (λ p. IsLaidPart width p.laid.value) old.now }
     requires same { All (λ d. All (λ p. IsOfValue p d) old.now) parts.now }
-    requires right { IsRightSoFar width laying.old }
+    requires right { IsRightSoFar width old.now laying.old }
     ensures laid { OnOk result ((t : WideTree) → HasLaid old.now parts.now
         (shut_shown (given_back_by laying.old.frames.items) laying.old.attrs
         (left_values parts.now laying.old.next) t) laying.old laying.new) }
-    ensures right { OnOk result (IsRightSoFar width laying.new) }
+    ensures right { OnOk result (IsRightSoFar width old.now laying.new) }
     ensures counted { OnOk result (steps.new + laying.old.unit.items ≡ steps.old + laying.new.unit.items) }
     ensures rises { steps.old ≤ steps.new }
 {
@@ -146,18 +204,20 @@ fn next_part<L: Ledger>(
     let _size = part.trace.value.size();
     weight_laws();
     let mut near = laying.near;
-    let (laid, items) = laid_part(
+    let (slot, items) = next_slot(
         alloc,
         part,
         &laying.attrs,
         &laying.frames,
+        laying.rows,
         old,
+        laying.free,
         &mut near,
         width,
         steps,
     )?;
     laying.near = near;
-    add_part(part.path.copy(alloc)?, laid, laying)?;
+    add_slot(old, slot, laying)?;
     laying.next += 1;
     laying.unit.items += items;
     Ok(())
@@ -172,15 +232,15 @@ pub(crate) fn end_unit<L: Ledger>(
 ) -> Result<(), Memory>
     requires least_width { 20 ≤ width }
     requires most_width { width ≤ 500 }
-    requires right { IsRightSoFar width laying.old }
     requires nothing { laying.old.unit.paragraphs.items ≡ [] }
     requires no_line { laying.old.unit.lines ≡ [] }
-    ensures paragraphs { OnOk result (placed_paragraphs laying.new.unit.parts.items ++ laying.new.unit.paragraphs.items
-        ≡ or_one laying.old.attrs (placed_paragraphs laying.old.unit.parts.items)) }
+    ensures paragraphs { OnOk result ((old : List Placed) → IsRightSoFar width old laying.old
+        → placed_paragraphs (so_far old laying.old) ++ laying.new.unit.paragraphs.items
+        ≡ or_one laying.old.attrs (placed_paragraphs (so_far old laying.old))) }
     ensures lines { OnOk result (AreLines width laying.new.unit.paragraphs.items laying.new.unit.lines) }
-    ensures parts { laying.new.unit.parts ≡ laying.old.unit.parts }
-    ensures errors { laying.new.unit.errors ≡ laying.old.unit.errors }
-    ensures items { laying.new.unit.items ≡ laying.old.unit.items }
+    ensures slots { OnOk result (laying.new.slots ≡ laying.old.slots) }
+    ensures errors { OnOk result (laying.new.unit.errors ≡ laying.old.unit.errors) }
+    ensures items { OnOk result (laying.new.unit.items ≡ laying.old.unit.items) }
     ensures steps { steps.new ≡ steps.old }
 {
     let some = laying.some;
@@ -214,11 +274,11 @@ pub(crate) fn lay_tree<L: Ledger>(
     requires distinct { IsDistinct bytes_eq (laid_paths old.now) }
     requires laid { All (λ p. IsLaidPart width p.laid.value) old.now }
     requires same { All (λ d. All (λ p. IsOfValue p d) old.now) parts.now }
-    requires right { IsRightSoFar width laying.old }
+    requires right { IsRightSoFar width old.now laying.old }
     ensures laid { OnOk result (HasLaid old.now parts.now
         (parts_shown levels (given_back_by laying.old.frames.items) laying.old.attrs
         (left_values parts.now laying.old.next) t.now) laying.old laying.new) }
-    ensures right { OnOk result (IsRightSoFar width laying.new) }
+    ensures right { OnOk result (IsRightSoFar width old.now laying.new) }
     ensures counted { OnOk result (steps.new + laying.old.unit.items ≡ steps.old + laying.new.unit.items) }
     ensures rises { steps.old ≤ steps.new }
 {
@@ -252,11 +312,11 @@ fn lay_child<L: Ledger>(
     requires distinct { IsDistinct bytes_eq (laid_paths old.now) }
     requires laid { All (λ p. IsLaidPart width p.laid.value) old.now }
     requires same { All (λ d. All (λ p. IsOfValue p d) old.now) parts.now }
-    requires right { IsRightSoFar width laying.old }
+    requires right { IsRightSoFar width old.now laying.old }
     ensures laid { OnOk result (HasLaid old.now parts.now
         (parts_shown levels (λ b. b) laying.old.attrs (left_values parts.now laying.old.next) t.now)
         laying.old laying.new) }
-    ensures right { OnOk result (IsRightSoFar width laying.new) }
+    ensures right { OnOk result (IsRightSoFar width old.now laying.new) }
     ensures counted { OnOk result (steps.new + laying.old.unit.items ≡ steps.old + laying.new.unit.items) }
     ensures rises { steps.old ≤ steps.new }
 {
@@ -287,11 +347,11 @@ fn lay_children<L: Ledger>(
     requires distinct { IsDistinct bytes_eq (laid_paths old.now) }
     requires laid { All (λ p. IsLaidPart width p.laid.value) old.now }
     requires same { All (λ d. All (λ p. IsOfValue p d) old.now) parts.now }
-    requires right { IsRightSoFar width laying.old }
+    requires right { IsRightSoFar width old.now laying.old }
     ensures laid { OnOk result (HasLaid old.now parts.now
         (shown_as (openness t.now) (parts_shown levels) (given_back_by laying.old.frames.items) laying.old.attrs
         (left_values parts.now laying.old.next) t.now) laying.old laying.new) }
-    ensures right { OnOk result (IsRightSoFar width laying.new) }
+    ensures right { OnOk result (IsRightSoFar width old.now laying.new) }
     ensures counted { OnOk result (steps.new + laying.old.unit.items ≡ steps.old + laying.new.unit.items) }
     ensures rises { steps.old ≤ steps.new }
 {
@@ -322,11 +382,11 @@ fn lay_with<L: Ledger>(
     requires distinct { IsDistinct bytes_eq (laid_paths old.now) }
     requires laid { All (λ p. IsLaidPart width p.laid.value) old.now }
     requires same { All (λ d. All (λ p. IsOfValue p d) old.now) parts.now }
-    requires right { IsRightSoFar width laying.old }
+    requires right { IsRightSoFar width old.now laying.old }
     ensures laid { OnOk result (HasLaid old.now parts.now
         (shown_as (openness t.now) (parts_shown levels) (given_back_by laying.old.frames.items) laying.old.attrs
         (left_values parts.now laying.old.next) t.now) laying.old laying.new) }
-    ensures right { OnOk result (IsRightSoFar width laying.new) }
+    ensures right { OnOk result (IsRightSoFar width old.now laying.new) }
     ensures counted { OnOk result (steps.new + laying.old.unit.items ≡ steps.old + laying.new.unit.items) }
     ensures rises { steps.old ≤ steps.new }
 {

@@ -8,7 +8,9 @@ mod laid;
 mod laying;
 mod line_list;
 mod part;
+mod placing;
 mod settings;
+mod slots;
 mod under;
 mod unit;
 

@@ -1,5 +1,5 @@
 // A part laid out.
-ghost use Rattle.std.specs.Prelude.{◌≡◌, ◌+◌, ◌≤◌, ◌<◌, ◌^◌, ℕ, [], ◌∷◌, IfOk, OnOk, All, length, true, false};
+ghost use Rattle.std.specs.Prelude.{◌≡◌, ◌+◌, ◌≤◌, ◌<◌, ◌^◌, ℕ, List, [], ◌∷◌, IfOk, OnOk, All, length, true, false};
 ghost use Rattle.std.specs.Prelude.{if◌then◌else◌};
 ghost use Rattle.std.specs.List.{IsDistinct};
 ghost use Rattle.std.specs.Str.{bytes_eq};
@@ -9,13 +9,17 @@ ghost use Rattle.tx_items.specs.Drawing.{paragraph};
 ghost use Rattle.tx_items.specs.Narrow.{IsNarrow};
 ghost use Rattle.tx_items.specs.Shows.{show, part_paragraphs};
 ghost use Rattle.tx_view_form.specs.Views.{AreLines};
+ghost use Rattle.tx_items.specs.declared.attributes.Attrs.{Attrs as OneAttrs};
+ghost use Rattle.tx_part_layout.specs.declared.laid.PlacedPart.{PlacedPart as Placed};
 ghost use Rattle.tx_part_layout.specs.LaidParts.{IsLaidPart, IsOfValue, laid_paths, is_reused, items_in};
-ghost use Rattle.tx_part_layout.specs.Laying.{given_back_by};
+ghost use Rattle.tx_part_layout.specs.Finding.{IsReused};
+ghost use Rattle.tx_part_layout.specs.Laying.{given_back_by, IsNewSlot, IsSlotOf};
 
 use crate::finding::reused;
 use crate::laid::{LaidPart, PlacedPart};
 use crate::line_list::LineList;
 use crate::settings::{Frame, give_back};
+use crate::slots::Slot;
 use std::alloc::Global;
 use std::rc::Rc;
 use std::sync::ledger::Ledger;
@@ -209,68 +213,110 @@ fn blank_again<L: Ledger>(
     })
 }
 
-// What was laid out of a part, inside these `with`s. It is the same, unless the part is blank.
-fn laid_again<L: Ledger>(
+// A law: what was laid out of a part that isn't blank is the same inside any `with`s.
+fn unblank_law(laid: &LaidPart, frames: &[Frame], width: u32)
+    requires laid { IsLaidPart width laid.now }
+    requires unblank { laid.now.blank ≡ false }
+    ensures { laid.now.paragraphs.items ≡ part_paragraphs (show laid.now.before laid.now.value).form
+        (given_back_by frames.now (show laid.now.before laid.now.value).after) }
+{}
+
+// This at the part's path, below so many lines of its unit.
+fn new_slot(alloc: Global, part: &Part, above: u64, laid: Rc<LaidPart>) -> Result<Slot, Memory>
+    ensures { IfOk result (λ s. (old : List Placed) → IsNewSlot old part.now.path above laid.value s) }
+{
+    let path = part.path.copy(alloc)?;
+    let placed = PlacedPart::new(path, above, laid)?;
+    Ok(Slot::Anew(Box::new(alloc, placed)?))
+}
+
+// What is laid out of a part inside these `with`s, below so many lines of its unit, where that of this number was laid
+// out of it before these attributes. It is the same, unless the part is blank, and stays where its number is free.
+fn again<L: Ledger>(
     alloc: Global,
-    laid: &Rc<LaidPart>,
+    part: &Part,
     frames: &[Frame],
+    above: u64,
+    old: &[PlacedPart],
+    i: usize,
+    free: usize,
     width: u32,
     steps: &mut Steps<L>,
-) -> Result<Rc<LaidPart>, Memory>
+) -> Result<Slot, Memory>
     requires least_width { 20 ≤ width }
     requires most_width { width ≤ 500 }
-    requires laid { IsLaidPart width laid.now.value }
-    ensures laid { IfOk result (λ r. IsLaidPart width r.value) }
-    ensures value { IfOk result (λ r. r.value.value ≡ laid.now.value.value) }
-    ensures before { IfOk result (λ r. r.value.before ≡ laid.now.value.before) }
-    ensures paragraphs { IfOk result (λ r. r.value.paragraphs.items
-        ≡ part_paragraphs (show laid.now.value.before laid.now.value.value).form
-        (given_back_by frames.now (show laid.now.value.before laid.now.value.value).after)) }
+    requires there { i < length old.now }
+    requires laid { All (λ p. IsLaidPart width p.laid.value) old.now }
+    requires same { All (λ p. IsOfValue p part.now) old.now }
+    ensures slot { IfOk result (λ s. (a : OneAttrs) → IsReused old.now part.now a i
+        → IsSlotOf width old.now part.now a frames.now above free s 0) }
     ensures counted { OnOk result (steps.new ≡ steps.old) }
     ensures rises { steps.old ≤ steps.new }
 {
-    if laid.blank {
-        let again = blank_again(alloc, laid, frames, width, steps)?;
-        return Ok(Rc::new(alloc, again)?);
+    let former = &old[i];
+    if former.brief.blank {
+        let laid = blank_again(alloc, &former.laid, frames, width, steps)?;
+        return new_slot(alloc, part, above, Rc::new(alloc, laid)?);
     }
-    Ok(laid.clone()?)
+    unblank_law(&former.laid, frames, width);
+    if i < free {
+        return new_slot(alloc, part, above, former.laid.clone()?);
+    }
+    Ok(Slot::Again(i, above))
 }
 
-/// What is laid out of a part before these attributes, inside these `with`s. Answers also how many items were laid out
-/// anew.
-pub(crate) fn laid_part<L: Ledger>(
+// The same, where nothing that was laid out of the part before can be used.
+fn anew<L: Ledger>(
     alloc: Global,
     part: &Part,
     attrs: &Attrs,
     frames: &[Frame],
+    above: u64,
+    width: u32,
+    steps: &mut Steps<L>,
+) -> Result<(Slot, u64), Memory>
+    requires least_width { 20 ≤ width }
+    requires most_width { width ≤ 500 }
+    requires small { size_of (plain part.now.trace.value) ≤ 1000000 }
+    ensures slot { IfOk result (λ r. (old : List Placed) → is_reused old part.now attrs.now ≡ false
+        → (free : ℕ) → IsSlotOf width old part.now attrs.now frames.now above free r.0 r.1) }
+    ensures counted { IfOk result (λ r. steps.new ≡ steps.old + r.1) }
+    ensures rises { steps.old ≤ steps.new }
+{
+    let (laid, items) = new_laid(alloc, part, attrs, frames, width, steps)?;
+    let slot = new_slot(alloc, part, above, laid)?;
+    Ok((slot, items))
+}
+
+/// What is laid out of a part below so many lines of its unit, before these attributes, inside these `with`s. What was
+/// laid out before may stay from number `free` on. Answers also how many items were laid out anew.
+pub(crate) fn next_slot<L: Ledger>(
+    alloc: Global,
+    part: &Part,
+    attrs: &Attrs,
+    frames: &[Frame],
+    above: u64,
     old: &[PlacedPart],
+    free: usize,
     near: &mut usize,
     width: u32,
     steps: &mut Steps<L>,
-) -> Result<(Rc<LaidPart>, u64), Memory>
+) -> Result<(Slot, u64), Memory>
     requires least_width { 20 ≤ width }
     requires most_width { width ≤ 500 }
     requires small { size_of (plain part.now.trace.value) ≤ 1000000 }
     requires distinct { IsDistinct bytes_eq (laid_paths old.now) }
     requires laid { All (λ p. IsLaidPart width p.laid.value) old.now }
     requires same { All (λ p. IsOfValue p part.now) old.now }
-    ensures laid { IfOk result (λ r. IsLaidPart width r.0.value) }
-    ensures value { IfOk result (λ r. r.0.value.value ≡ part.now.trace.value) }
-    ensures before { IfOk result (λ r. r.0.value.before ≡ attrs.now) }
-    ensures paragraphs { IfOk result (λ r. r.0.value.paragraphs.items
-        ≡ part_paragraphs (show attrs.now part.now.trace.value).form
-        (given_back_by frames.now (show attrs.now part.now.trace.value).after)) }
-    ensures items { IfOk result (λ r. r.1 ≡ if is_reused old.now part.now attrs.now then 0
-        else items_in r.0.value.paragraphs.items) }
-    ensures few { IfOk result (λ r. r.1 ≤ 242000000) }
+    ensures slot { IfOk result (λ r. IsSlotOf width old.now part.now attrs.now frames.now above free r.0 r.1) }
     ensures counted { IfOk result (λ r. steps.new ≡ steps.old + r.1) }
     ensures rises { steps.old ≤ steps.new }
 {
     match reused(old, part, attrs, near) {
-        Some(placed) => {
-            let laid = laid_again(alloc, &placed.laid, frames, width, steps)?;
-            Ok((laid, 0))
+        Some(i) => {
+            let slot = again(alloc, part, frames, above, old, i, free, width, steps)?;
+            Ok((slot, 0))
         }
-        None => new_laid(alloc, part, attrs, frames, width, steps),
+        None => anew(alloc, part, attrs, frames, above, width, steps),
     }
 }

@@ -1,6 +1,6 @@
 pub mod Stretching
 mod Below
-mod Told
+pub mod Putting
 mod Heads
 mod Lining
 pub mod Costing

@@ -1,9 +1,28 @@
 -- What is laid out of parts goes with them through an edit.
-use Rattle.std.specs.Prelude.{ℕ, ◌==◌, Bool, false, if◌then◌else◌, List, [], ◌∷◌, Option, Some, None}
+use Rattle.std.specs.Prelude.{ℕ, ◌+◌, ◌==◌, if◌then◌else◌, List, [], ◌∷◌, Option, Some, None, option_map}
+use Rattle.std.specs.List.{cons_option}
 use Rattle.tx_part_layout.specs.declared.laid.LaidPart.{LaidPart}
 use Rattle.tx_part_layout.specs.declared.laid.PlacedPart.{PlacedPart}
+use Rattle.tx_part_layout.specs.LaidParts.{put_to}
 
--- a part in its place, wherever in memory lies what it shows
+-- ---- in place
+
+-- where parts of these numbers stand afterwards; one that doesn't stay stands nowhere
+abbrev pub PartPlaces : Type 0
+PartPlaces = List (ℕ × Option (List ℕ))
+
+-- The parts, whose numbers begin with i, as they stand afterwards: those of these numbers where it is told, and each
+-- other one where it stood. The numbers are in order.
+abbrev pub put_along : ℕ → PartPlaces → List PlacedPart → List PlacedPart
+put_along i [] ps = ps
+put_along i (m ∷ ms) [] = []
+put_along i (m ∷ ms) (p ∷ ps) =
+    if m.0 == i then cons_option (option_map (λ path. put_to path p) m.1) (put_along (i + 1) ms ps)
+    else p ∷ put_along (i + 1) (m ∷ ms) ps
+
+-- ---- wherever in memory lies what is laid out
+
+-- a part in its place
 pub record WidePart : Type 0 where
   pub path : List ℕ
   pub above : ℕ
@@ -22,19 +41,3 @@ laid_by [] ps = []
 laid_by (q ∷ qs) [] = []
 laid_by (None ∷ qs) (p ∷ ps) = laid_by qs ps
 laid_by (Some q ∷ qs) (p ∷ ps) = put_at q p ∷ laid_by qs ps
-
--- ---- one part
-
-abbrev pub at_place : Option (List ℕ) → PlacedPart → List WidePart
-at_place None p = []
-at_place (Some q) p = put_at q p ∷ []
-
--- of the part of number i it is told first where it stands afterwards
-abbrev pub is_told : ℕ → List (ℕ × Option (List ℕ)) → Bool
-is_told i [] = false
-is_told i (m ∷ ms) = m.0 == i
-
--- the part of number i as it stands afterwards
-abbrev pub part_by : ℕ → List (ℕ × Option (List ℕ)) → PlacedPart → List WidePart
-part_by i [] p = wide_part p ∷ []
-part_by i (m ∷ ms) p = if m.0 == i then at_place m.1 p else wide_part p ∷ []

@@ -22,6 +22,7 @@ ghost use Rattle.tx_unit_layout.specs.LaidAts.{laid_at, unit_items_anew};
 ghost use Rattle.tx_unit_layout.specs.LaidUnits.{WasLaid};
 ghost use Rattle.tx_unit_layout.specs.Views.{IsReadable};
 
+use crate::again::lay_again;
 use crate::laid_parts::LaidParts;
 use crate::shown::Shown;
 use std::alloc::Global;
@@ -30,7 +31,6 @@ use tx_base::{Memory, Steps};
 use tx_exec::Trace;
 use tx_exec_form::{size_law, trace_laws};
 use tx_items::Attrs;
-use tx_part_layout::lay_parts;
 use tx_parts::cost_law;
 use tx_units::Unit;
 use tx_view_form::{short_law, weight_laws};
@@ -95,12 +95,12 @@ pub(crate) fn lay_by_parts<L: Ledger>(
     short_law();
     done_parts_law(unit, trace, parts);
     let path = unit.copy_path(alloc)?;
-    let laid = lay_parts(
+    let laid = lay_again(
         alloc,
         &unit.tagged.tree,
         parts,
         &attrs,
-        shown.parts.all(),
+        &mut shown.parts,
         width,
         steps,
     )?;

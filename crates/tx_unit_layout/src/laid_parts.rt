@@ -1,19 +1,20 @@
 // What is laid out of the parts of a unit.
-ghost use Rattle.std.specs.Prelude.{◌≡◌, ◌++◌, [], ◌∷◌, drop, map, option_map, All, IfOk, OnOk, OnErr, IsTrue};
-ghost use Rattle.std.specs.Prelude.{IsFalse, not};
-ghost use Rattle.std.specs.List.{filter};
+ghost use Rattle.std.specs.Prelude.{◌≡◌, ◌++◌, ◌+◌, ◌<◌, ◌≤◌, [], ◌∷◌, List, take, drop, length, map, option_map};
+ghost use Rattle.std.specs.Prelude.{slice_index_or, slice_set, All, IfOk, OnOk, OnErr, IsTrue, IsFalse, MatchOption};
+ghost use Rattle.std.specs.Prelude.{not};
+ghost use Rattle.std.specs.List.{cons_option, filter};
 ghost use Rattle.tx_layout.specs.Paging.{Unmarked};
-ghost use Rattle.tx_part_layout.specs.LaidParts.{laid_paths, placed_lines};
+ghost use Rattle.tx_part_layout.specs.declared.laid.PlacedPart.{PlacedPart as Placed};
+ghost use Rattle.tx_part_layout.specs.LaidParts.{placed_lines, put_to};
 ghost use Rattle.tx_bridge.specs.InPlace.{begins_path};
-ghost use Rattle.tx_bridge.specs.MovedParts.{moves_of, places_by};
-ghost use Rattle.tx_unit_layout.specs.Moving.{wide_part, put_at, at_place, laid_by, is_told, part_by};
+ghost use Rattle.tx_unit_layout.specs.Moving.{wide_part, put_at, put_along};
 
 use std::alloc::Global;
 use std::marker::Model;
+use std::mem;
 use tx_base::Memory;
 use tx_part_layout::PlacedPart;
 use tx_tree::Path;
-use tx_walk::Part;
 
 /// What is laid out of the parts of a unit, in order. Contracts see their list.
 #[derive(Drop)]
@@ -44,7 +45,7 @@ fn are_marked(parts: &[PlacedPart]) -> bool
     ensures { IsFalse result → All Unmarked (placed_lines parts.now) }
 {
     for part in parts {
-        if !part.laid.lines.is_unmarked() {
+        if part.brief.marked {
             return true;
         }
     }
@@ -55,60 +56,87 @@ fn are_marked(parts: &[PlacedPart]) -> bool
 fn at_path(alloc: Global, part: &PlacedPart, path: &Path) -> Result<PlacedPart, Memory>
     ensures { IfOk result (λ p. wide_part p ≡ put_at path.now part.now) }
 {
-    Ok(PlacedPart {
-        path: path.copy(alloc)?,
-        above: part.above,
-        laid: part.laid.clone()?,
-    })
+    part.at(path.copy(alloc)?)
 }
 
-// Adds the part at this place, if there is one.
-fn add_at(
-    alloc: Global,
-    part: &PlacedPart,
-    place: &Option<Part>,
-    all: &mut Vec<PlacedPart>,
-) -> Result<(), Memory>
-    ensures { OnOk result (map wide_part all.new.items
-        ≡ map wide_part all.old.items ++ at_place (option_map (λ d. d.path) place.now) part.now) }
+// Where the part of number i is to stand, if the first of these places from number k on is told of it.
+fn taken(places: &mut [(usize, Option<Path>)], k: usize, i: usize) -> Option<Option<Path>>
+    ensures { MatchOption result ((places.new ≡ places.old) × ((p : Placed) (ps : List Placed)
+        → put_along i (drop k places.new) (p ∷ ps) ≡ p ∷ put_along (i + 1) (drop k places.new) ps))
+        (λ o. (k < length places.old) × ((p : Placed) (ps : List Placed) → put_along i (drop k places.old) (p ∷ ps)
+        ≡ cons_option (option_map (λ path. put_to path p) o) (put_along (i + 1) (drop (k + 1) places.new) ps))) }
 {
-    if let Some(there) = place {
-        all.push(at_path(alloc, part, &there.path)?)?;
+    if k < places.len() && places[k].0 == i {
+        return Some(places[k].1.take());
     }
-    Ok(())
+    None
 }
 
-// Whether that of number k is told of the part of number i.
-fn is_next(moved: &[(usize, Option<Part>)], k: usize, i: usize) -> bool
-    ensures { result ≡ is_told i (drop k (moves_of moved.now)) }
+// The part of number i moves down to the number `at`.
+fn move_down(parts: &mut [PlacedPart], at: usize, i: usize)
+    requires order { at ≤ i }
+    requires there { i < length parts.old }
+    ensures front { (d : Placed) → take (at + 1) parts.new ≡ take at parts.old ++ slice_index_or parts.old i d ∷ [] }
+    ensures back { drop (i + 1) parts.new ≡ drop (i + 1) parts.old }
+    ensures long { length parts.new ≡ length parts.old }
 {
-    if k < moved.len() {
-        moved[k].0 == i
-    } else {
-        false
+    if at < i {
+        parts.swap(at, i);
     }
 }
 
-// Adds the part of number i, if it stays in its unit, where the first of these that moved from number k on may be it.
-// Answers whether it was.
-fn add_moved(
-    alloc: Global,
-    part: &PlacedPart,
+// The part of number i goes to another path.
+fn set_path(parts: &mut [PlacedPart], i: usize, path: Path)
+    requires there { i < length parts.old }
+    ensures put { (d : Placed) → parts.new ≡ slice_set parts.old i (put_to path (slice_index_or parts.old i d)) }
+    ensures long { length parts.new ≡ length parts.old }
+{
+    parts[i].put(path);
+}
+
+// One part more: it moves down to the number `at`, at its path or at another one, or it goes. Answers the next such
+// number, and that of the next place.
+fn put_next(
+    parts: &mut [PlacedPart],
+    places: &mut [(usize, Option<Path>)],
     i: usize,
-    moved: &[(usize, Option<Part>)],
+    at: usize,
     k: usize,
-    all: &mut Vec<PlacedPart>,
-) -> Result<bool, Memory>
-    ensures told { IfOk result (λ b. b ≡ is_told i (drop k (moves_of moved.now))) }
-    ensures added { OnOk result (map wide_part all.new.items
-        ≡ map wide_part all.old.items ++ part_by i (drop k (moves_of moved.now)) part.now) }
+) -> (usize, usize)
+    requires there { i < length parts.old }
+    requires order { at ≤ i }
+    ensures same { take result.0 parts.new ++ put_along (i + 1) (drop result.1 places.new) (drop (i + 1) parts.new)
+        ≡ take at parts.old ++ put_along i (drop k places.old) (drop i parts.old) }
+    ensures order { result.0 ≤ i + 1 }
+    ensures long { length parts.new ≡ length parts.old }
 {
-    if is_next(moved, k, i) {
-        add_at(alloc, part, &moved[k].1, all)?;
-        return Ok(true);
+    match taken(places, k, i) {
+        None => {
+            move_down(parts, at, i);
+            (at + 1, k)
+        }
+        Some(None) => (at, k + 1),
+        Some(Some(path)) => {
+            set_path(parts, i, path);
+            move_down(parts, at, i);
+            (at + 1, k + 1)
+        }
     }
-    all.push(at_path(alloc, part, &part.path)?)?;
-    Ok(false)
+}
+
+// The parts of these numbers go to these places, or don't stay. Of the parts before the first one no memory is read.
+fn put_all(parts: &mut Vec<PlacedPart>, places: Vec<(usize, Option<Path>)>)
+    ensures { parts.new.items ≡ put_along 0 places.items parts.old.items }
+{
+    let mut places = places;
+    let mut at = 0;
+    let mut k = 0;
+    for i in 0..parts.len() {
+        let (next_at, next_k) = put_next(parts, &mut places, i, at, k);
+        at = next_at;
+        k = next_k;
+    }
+    parts.truncate(at);
 }
 
 // The path begins with that of the part.
@@ -142,6 +170,22 @@ impl LaidParts {
     {
         let marked = are_marked(&all);
         LaidParts { all, marked }
+    }
+
+    /// These, of which nothing is known.
+    pub fn unread(all: Vec<PlacedPart>) -> LaidParts
+        ensures { result ≡ all.items }
+    {
+        LaidParts { all, marked: true }
+    }
+
+    /// They are taken out.
+    pub fn take(&mut self, alloc: Global) -> Vec<PlacedPart>
+        ensures taken { result.items ≡ self.old }
+        ensures left { self.new ≡ [] }
+    {
+        self.marked = false;
+        mem::replace(&mut self.all, Vec::new(alloc))
     }
 
     /// All of them.
@@ -186,18 +230,12 @@ impl LaidParts {
         Ok(())
     }
 
-    /// The same, where parts of these numbers moved or don't stay in the unit. Nothing is laid out.
-    pub fn moved(&self, alloc: Global, moved: &[(usize, Option<Part>)]) -> Result<LaidParts, Memory>
-        ensures { IfOk result
-            (λ l. map wide_part l ≡ laid_by (places_by 0 (moves_of moved.now) (laid_paths self.now)) self.now) }
+    /// The parts of these numbers, which are in order, go to these places, or don't stay where there is none. Each
+    /// other one stays where it is. Nothing is laid out, nor copied, and it takes no memory.
+    pub fn put(&mut self, places: Vec<(usize, Option<Path>)>)
+        ensures { self.new ≡ put_along 0 places.items self.old }
     {
-        let mut all = Vec::with_capacity(alloc, self.all.len())?;
-        let mut k = 0;
-        for i in 0..self.all.len() {
-            if add_moved(alloc, &self.all[i], i, moved, k, &mut all)? {
-                k += 1;
-            }
-        }
-        Ok(LaidParts { all, marked: true })
+        self.marked = true;
+        put_all(&mut self.all, places);
     }
 }

@@ -2,6 +2,7 @@
 //! used again where it still holds.
 #![tactic(auto)]
 
+mod again;
 mod by_parts;
 mod laid_parts;
 mod laying;

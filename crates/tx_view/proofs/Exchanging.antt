@@ -14,14 +14,13 @@ use Rattle.tx_doc.specs.declared.buffer.Buffer.{Buffer}
 use Rattle.tx_units.specs.declared.kinds.Unit.{Unit as DocUnit}
 use Rattle.tx_units.specs.Inside.{ChangesOne}
 use Rattle.tx_units.specs.Units.{units, units_with}
-use Rattle.tx_part_layout.specs.declared.laid.PlacedPart.{PlacedPart}
 use Rattle.tx_bridge.specs.Carrying.{HaveSameTrees}
 use Rattle.tx_bridge.specs.Entries.{Entry, Kept, units_of}
 use Rattle.tx_bridge.specs.InPlace.{IsOneChanged, NoneChanged, is_changed, is_gone, are_within, numbers_but}
 use Rattle.tx_bridge.specs.Names.{CarryTraces, Sources}
 use Rattle.tx_bridge.specs.UnitLists.{AreUnits}
 use Rattle.tx_view.specs.Exchanged.{IsNow, IsExchanged, stays_alone, exchanged_from, exchanged_in}
-use Rattle.tx_view.specs.Laid.{IsTarget}
+use Rattle.tx_view.specs.Laid.{IsTarget, ToldPlaces}
 use Rattle.tx_view.specs.declared.carrying.Target.TheVariants.{InPlace}
 use Rattle.tx_view.proofs.Blank.{tree_at}
 use Rattle.tx_view.proofs.Changing.{stays_beside}
@@ -140,7 +139,7 @@ many_with zero x (u ∷ us) = refl
 many_with (suc i) x (u ∷ us) = ap suc (many_with i x us)
 
 -- what is shown can stay in place
-pub target_with : (i : ℕ) (silent : Bool) (ps : List PlacedPart) (x : WideTree) (us vs : List DocUnit)
+pub target_with : (i : ℕ) (silent : Bool) (ps : ToldPlaces) (x : WideTree) (us vs : List DocUnit)
     (ss : List (Option ℕ)) → vs ≡ units_with i x us → ss ≡ numbers_but i 0 (length us)
     → IsTarget us vs ss (InPlace i silent ps)
 target_with i silent ps x us vs ss is numbers = (
@@ -190,7 +189,7 @@ same_with i n x us vs ss is numbers l m u v at there number =
     (ap (λ (w : DocUnit). w.tagged.tree) e, ap (λ (w : DocUnit). is_some w.path) e)
 
 -- what is kept, and what is shown, is as it would be behind any edit
-pub record IsInPlace (buffer i : ℕ) (silent : Bool) (ps : List PlacedPart) (ms : List Mod) (t : WideTree)
+pub record IsInPlace (buffer i : ℕ) (silent : Bool) (ps : ToldPlaces) (ms : List Mod) (t : WideTree)
     (kept new : Kept) (ss : List (Option ℕ)) (vs : List DocUnit) : Type 0 where
   pub target : IsTarget (units_of kept) vs ss (InPlace i silent ps)
   pub same_trees : HaveSameTrees (units_of kept) vs ss
@@ -198,7 +197,7 @@ pub record IsInPlace (buffer i : ℕ) (silent : Bool) (ps : List PlacedPart) (ms
   pub sources : ss ≡ Sources buffer ms t (units_of kept) vs
   pub units_are : units_of new ≡ vs
 
-in_place : (buffer i : ℕ) (silent : Bool) (ps : List PlacedPart) (ms : List Mod) (t before x : WideTree)
+in_place : (buffer i : ℕ) (silent : Bool) (ps : ToldPlaces) (ms : List Mod) (t before x : WideTree)
     (kept new : Kept) (ss : List (Option ℕ)) (vs : List DocUnit) → buffer ≡ 0 → t ≡ before
     → vs ≡ units_with i x (units_of kept) → new ≡ CarryTraces 0 ms before kept (units_with i x (units_of kept))
     → ss ≡ Sources 0 ms before (units_of kept) (units_with i x (units_of kept))
@@ -219,7 +218,7 @@ in_place buffer i silent ps ms t before x kept new ss vs first at now carried so
     }
 
 -- so it is where `carry_in_place` was called for the unit that is exchanged
-pub carried_at : (bs after : List Buffer) (buffer i : ℕ) (silent : Bool) (ps : List PlacedPart) (ms : List Mod)
+pub carried_at : (bs after : List Buffer) (buffer i : ℕ) (silent : Bool) (ps : ToldPlaces) (ms : List Mod)
     (d : Buffer) (t x : WideTree) (kept new : Kept) (ss : List (Option ℕ)) → ChangesOne bs i t x → 1 ≤ length bs
     → buffer < length bs → IsExchanged i buffer ms t x (units_of kept) → units_of kept ≡ units bs
     → after ≡ with_tree bs buffer t → changed_by_all ms (tree_of bs buffer) ≡ Some t

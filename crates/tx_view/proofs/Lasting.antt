@@ -40,19 +40,19 @@ left_by v buffer ms t new xs to ss vs former paged (Some l) h is_new is_ss targe
     let was : Former = record { unit = l.unit; attrs = l.attrs; unmarked = l.unmarked } in
     let f : IsFormer to v.fresh (all_of v) was =
     subst (λ (o : Option Former). IfSome o (λ p. IsFormer to v.fresh (all_of v) p)) is.0 known in
-    let stay : StayBut f.parts l.unit 0 (all_of v) xs =
+    let stay : StayBut f.places.items l.unit 0 (all_of v) xs =
     subst (λ (o : Target). HasGone o ss (all_of v) xs) f.target moved in (
-      left_alone v.width buffer ms t v.bridges.kept new v.bridges.parts (all_of v) xs to ss vs l.unit l.attrs f.parts
+      left_alone v.width buffer ms t v.bridges.kept new v.bridges.parts (all_of v) xs to ss vs l.unit l.attrs f.places
           h.laid is_new is_ss target moved silent f.target (fresh_along v h f.was_fresh)
           (laid_there (all_of v) l.unit f.was.shown l.attrs f.was.there f.was.laid),
       record {
-        there = view_there f.parts l.unit f.was.shown (all_of v) xs stay f.was.there;
+        there = view_there f.places.items l.unit f.was.shown (all_of v) xs stay f.was.there;
         former = unit_view f.was.shown;
         paged =
             subst (λ (p : Pagination). IsPaged v.height (slice_set (unit_views xs) l.unit (unit_view f.was.shown)) p)
             (sym (is.1 ∙ same))
             (subst (λ us. IsPaged v.height us v.paged)
-            (sym (views_but f.parts l.unit 0 l.unit f.was.shown (all_of v) xs (omega arith) stay f.was.there))
+            (sym (views_but f.places.items l.unit 0 l.unit f.was.shown (all_of v) xs (omega arith) stay f.was.there))
             (paged_is v h f.was_fresh));
         unmarked = f.was.unmarked;
       },

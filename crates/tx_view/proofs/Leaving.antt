@@ -5,7 +5,7 @@ use Rattle.std.proofs.lemmas.Option.{same_Some, slice_get_within, slice_get-get_
 use Rattle.std.specs.FinMap.{empty}
 use Rattle.std.specs.List.{All}
 use Rattle.std.specs.Option.{option_map}
-use Rattle.std.specs.Prelude.{slice_get, ◌==◌, if◌then◌else◌}
+use Rattle.std.specs.Prelude.{slice_get, ◌==◌, if◌then◌else◌, IfSome}
 use Rattle.tx_tree.specs.WideTree.{WideTree}
 use Rattle.tx_env.specs.Environments.{NameMap}
 use Rattle.tx_exec_form.specs.Evaluated.{WideTrace}
@@ -21,12 +21,14 @@ use Rattle.tx_bridge.specs.Carrying.{had, taken_from}
 use Rattle.tx_bridge.specs.InPlace.{numbers_but}
 use Rattle.tx_bridge.specs.Names.{Sources, CarryTraces as CarryKept}
 use Rattle.tx_bridge.specs.PartsKept.{KeptParts}
+use Rattle.tx_view.specs.declared.carrying.Former.{Former}
 use Rattle.tx_view.specs.declared.carrying.Target.{Target}
 use Rattle.tx_view.specs.declared.carrying.Target.TheVariants.{InPlace}
-use Rattle.tx_part_layout.specs.declared.laid.PlacedPart.{PlacedPart}
+use Rattle.tx_unit_layout.specs.Moving.{PartPlaces}
 use Rattle.tx_unit_layout.specs.declared.shown.Shown.{Shown}
 use Rattle.tx_view.specs.declared.view.View.TheInside.{Inside}
-use Rattle.tx_view.specs.Laid.{AreLaid, laid_in, StayBut, WasShown, IsTarget, HasGone, SetNoName}
+use Rattle.tx_view.specs.Laid.{AreLaid, laid_in, StayBut, WasShown, IsTarget, HasGone, SetNoName, IsFormer}
+use Rattle.tx_view.specs.Laid.{ToldPlaces}
 use Rattle.tx_view.specs.Lone.{attributes_along, IsLone}
 use Rattle.tx_bridge.specs.Settled.{IsSilent}
 use Rattle.tx_view.specs.Names.{Fresh}
@@ -57,9 +59,23 @@ was_shown xs i d o a b inside is some unmarked = record {
   unmarked = unmarked;
 }
 
+-- the unit that has changed alone, where the view was fresh
+pub former_told : (to : Target) (fresh silent : Bool) (old : List Shown) (i : ℕ) (ps : ToldPlaces)
+    (was told : Option Former) → to ≡ InPlace i silent ps → IfSome was (λ f. WasShown old i f)
+    → IfSome told (λ f. (silent ≡ true) × (fresh ≡ true) × (was ≡ Some f)) → IfSome told (λ f. IsFormer to fresh old f)
+former_told to fresh silent old i ps was None is shown h = tt
+former_told to fresh silent old i ps was (Some f) is shown h =
+    let w : WasShown old i f = subst (λ (o : Option Former). IfSome o (λ g. WasShown old i g)) h.2 shown in
+    record {
+      places = ps;
+      target = is ∙ ap (λ b. InPlace i b ps) h.0 ∙ ap (λ k. InPlace k true ps) (sym w.number);
+      was_fresh = h.1;
+      was = subst (λ k. WasShown old k f) (sym w.number) w;
+    }
+
 -- ---- what stays of what is shown
 
-put_back : (ps : List PlacedPart) (i k j : ℕ) (a : Attrs) (ys xs : List Shown) → i ≡ k + j → StayBut ps i k ys xs
+put_back : (ps : PartPlaces) (i k j : ℕ) (a : Attrs) (ys xs : List Shown) → i ≡ k + j → StayBut ps i k ys xs
     → slice_get (laid_in ys) j ≡ Some (Some a) → slice_set (laid_in xs) j (Some a) ≡ laid_in ys
 put_back ps i k j a [] xs e h at = cc
 put_back ps i k j a (y ∷ ys) [] e h at = absurd h
@@ -71,7 +87,7 @@ put_back ps i k (suc j) a (y ∷ ys) (x ∷ xs) e h at =
     (stays_same ps y x (k == i) (not_equal k i (λ f. omega (arith, e, f))) h.0)
     ∙ ap (λ bs. y.laid ∷ bs) (put_back ps i (k + 1) j a ys xs (omega (arith, e)) h.1 at)
 
-unlaid_there : (ps : List PlacedPart) (i k j : ℕ) (o : Option Attrs) (ys xs : List Shown) → i ≡ k + j
+unlaid_there : (ps : PartPlaces) (i k j : ℕ) (o : Option Attrs) (ys xs : List Shown) → i ≡ k + j
     → StayBut ps i k ys xs → slice_get (laid_in ys) j ≡ Some o → slice_get (laid_in xs) j ≡ Some None
 unlaid_there ps i k j o [] xs e h at = cc
 unlaid_there ps i k j o (y ∷ ys) [] e h at = absurd h
@@ -81,7 +97,7 @@ unlaid_there ps i k (suc j) o (y ∷ ys) (x ∷ xs) e h at =
     unlaid_there ps i (k + 1) j o ys xs (omega (arith, e)) h.1 at
 
 -- what units show stays until they are laid out anew, but for that of the unit that has changed
-pub views_but : (ps : List PlacedPart) (i k j : ℕ) (d : Shown) (ys xs : List Shown) → i ≡ k + j → StayBut ps i k ys xs
+pub views_but : (ps : PartPlaces) (i k j : ℕ) (d : Shown) (ys xs : List Shown) → i ≡ k + j → StayBut ps i k ys xs
     → slice_get ys j ≡ Some d → slice_set (unit_views xs) j (unit_view d) ≡ unit_views ys
 views_but ps i k j d [] xs e h at = cc
 views_but ps i k j d (y ∷ ys) [] e h at = absurd h
@@ -93,7 +109,7 @@ views_but ps i k (suc j) d (y ∷ ys) (x ∷ xs) e h at =
     (stays_same ps y x (k == i) (not_equal k i (λ f. omega (arith, e, f))) h.0)
     ∙ ap (λ us. unit_view y ∷ us) (views_but ps i (k + 1) j d ys xs (omega (arith, e)) h.1 at)
 
-as_many_stay : (ps : List PlacedPart) (i k : ℕ) (ys xs : List Shown) → StayBut ps i k ys xs → length xs ≡ length ys
+as_many_stay : (ps : PartPlaces) (i k : ℕ) (ys xs : List Shown) → StayBut ps i k ys xs → length xs ≡ length ys
 as_many_stay ps i k [] [] h = refl
 as_many_stay ps i k [] (x ∷ xs) h = absurd h
 as_many_stay ps i k (y ∷ ys) [] h = absurd h
@@ -104,7 +120,7 @@ as_many_views [] = refl
 as_many_views (x ∷ xs) = ap suc (as_many_views xs)
 
 -- there is a view of that unit
-pub view_there : (ps : List PlacedPart) (i : ℕ) (d : Shown) (ys xs : List Shown) → StayBut ps i 0 ys xs
+pub view_there : (ps : PartPlaces) (i : ℕ) (d : Shown) (ys xs : List Shown) → StayBut ps i 0 ys xs
     → slice_get ys i ≡ Some d → i < length (unit_views xs)
 view_there ps i d ys xs h at =
     omega (arith, slice_get_within ys i d at, as_many_stay ps i 0 ys xs h, as_many_views xs)
@@ -199,7 +215,7 @@ laid_within xs i o at = omega (arith, slice_get_within (laid_in xs) i o at, laid
 
 pub left_alone : (width buffer : ℕ) (ms : List Mod) (t : WideTree) (old new : Kept) (pss : List KeptParts)
     (olds xs : List Shown) (to : Target) (ss : List (Option ℕ)) (vs : List DocUnit) (i : ℕ) (a : Attrs)
-    (ps : List PlacedPart) → AreLaid width old pss olds → new ≡ CarryKept buffer ms t old vs
+    (ps : ToldPlaces) → AreLaid width old pss olds → new ≡ CarryKept buffer ms t old vs
     → ss ≡ Sources buffer ms t (units_of old) vs → IsTarget (units_of old) vs ss to → HasGone to ss olds xs
     → SetNoName old to → to ≡ InPlace i true ps → laid_in olds ≡ attributes_along empty (traces_of old)
     → slice_get (laid_in olds) i ≡ Some (Some a) → IsLone new xs i a
@@ -207,7 +223,7 @@ unfolding CarryKept Sources
 left_alone width buffer ms t old new pss olds xs to ss vs i a ps laid is_new is_ss target moved silent is along at =
     let here : IsTarget (units_of old) vs ss (InPlace i true ps) =
     subst (λ (o : Target). IsTarget (units_of old) vs ss o) is target in
-    let stay : StayBut ps i 0 olds xs = subst (λ (o : Target). HasGone o ss olds xs) is moved in
+    let stay : StayBut ps.items i 0 olds xs = subst (λ (o : Target). HasGone o ss olds xs) is moved in
     let quiet = subst (λ (o : Target). SetNoName old o) is silent in
     let kept : traces_of new ≡ taken i 0 (traces_of old) vs =
     ap traces_of (is_new ∙ ap (λ ns. taken_from (traces_of old) ns vs) (sym is_ss ∙ here.0)) in
@@ -217,9 +233,9 @@ left_alone width buffer ms t old new pss olds xs to ss vs i a ps laid is_new is_
       nothing_kept =
           ap (λ ts. slice_get ts i) kept
           ∙ nothing_there i 0 i (traces_of old) vs (omega arith) (omega (arith, inside, many));
-      nothing_laid = unlaid_there ps i 0 i (Some a) olds xs (omega arith) stay at;
+      nothing_laid = unlaid_there ps.items i 0 i (Some a) olds xs (omega arith) stay at;
       attributes =
-          put_back ps i 0 i a olds xs (omega arith) stay at ∙ along
+          put_back ps.items i 0 i a olds xs (omega arith) stay at ∙ along
           ∙ sym (along_but i 0 i (traces_of old) (traces_of old) vs empty (omega arith) (from_first (traces_of old))
           (as_many old ∙ sym (kept_many width old pss olds laid) ∙ many)
           (λ o there. let e = trace_at old i o there in subst IsSilent e.2 (quiet refl e.0 e.1)))

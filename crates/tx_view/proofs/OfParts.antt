@@ -1,6 +1,6 @@
 -- What is laid out of the parts of a unit, where the unit stays, and where modifications are inside it.
 use Rattle.std.proofs.Common.{◌≡◌, ℕ, true, List, [], ◌∷◌, ◌++◌, map, Option, Some, None, refl, ap, sym}
-use Rattle.std.proofs.Common.{subst, ◌∙◌, ◌⊎◌, inl, inr, zero, suc, ◌<◌, length, arith}
+use Rattle.std.proofs.Common.{subst, ◌∙◌, ◌⊎◌, inl, inr, zero, suc}
 use Rattle.std.proofs.lemmas.Option.{same_Some}
 use Rattle.std.proofs.lemmas.List.Elements.{All-nil, All-from_recursion, recursion_from_All}
 use Rattle.std.specs.List.{AllByRecursion, IsDistinct, All, filter_map, cons_option}
@@ -25,10 +25,11 @@ use Rattle.tx_bridge.proofs.ChangedParts.{AreMovedAt}
 use Rattle.tx_bridge.specs.PartsKept.{KeptParts}
 use Rattle.tx_unit_layout.specs.LaidAts.{LaidAt, laid_at, laid_ats}
 use Rattle.tx_unit_layout.specs.LaidUnits.{IsLaid, AreOf, AreLaidParts}
-use Rattle.tx_unit_layout.specs.Moving.{WidePart, wide_part, put_at, laid_by}
+use Rattle.tx_unit_layout.specs.Moving.{WidePart, wide_part, put_at, laid_by, PartPlaces, put_along}
+use Rattle.tx_unit_layout.proofs.Putting.{wide_put}
 use Rattle.tx_unit_layout.specs.declared.shown.Shown.{Shown}
 use Rattle.tx_view.specs.Exchanged.{left_at}
-use Rattle.tx_view.specs.Laid.{AreLaid, IsBlank, parts_left, ArePutBy}
+use Rattle.tx_view.specs.Laid.{AreLaid, IsBlank, parts_left}
 
 -- ---- nothing is laid out
 
@@ -247,26 +248,16 @@ found width (e ∷ es) (ks ∷ pss) (y ∷ ys) (suc i) x h at =
     let f = found width es pss ys i x h.1 at in
     record { entry = f.entry; parts = f.parts; unit = f.unit; kept = f.kept; laid = f.laid }
 
--- each unit is laid out, or was
-pub laid_inside : (width : ℕ) (es : Kept) (pss : List KeptParts) (ys : List Shown) (i : ℕ) (u : DocUnit)
-    → AreLaid width es pss ys → slice_get (units_of es) i ≡ Some u → i < length ys
-laid_inside width [] pss ys i u h at = cc
-laid_inside width (e ∷ es) [] ys i u h at = absurd h
-laid_inside width (e ∷ es) (ks ∷ pss) [] i u h at = absurd h
-laid_inside width (e ∷ es) (ks ∷ pss) (y ∷ ys) zero u h at = omega arith
-laid_inside width (e ∷ es) (ks ∷ pss) (y ∷ ys) (suc i) u h at =
-    omega (arith, laid_inside width es pss ys i u h.1 at)
-
 -- the parts are put where those that are kept stand afterwards
 pub left_there : (width i buffer : ℕ) (ms : List Mod) (t : WideTree) (es : Kept) (pss : List KeptParts)
-    (ys : List Shown) (os : List (ℕ × Option DonePart)) (x : Shown) (qs : List PlacedPart) → AreLaid width es pss ys
+    (ys : List Shown) (os : List (ℕ × Option DonePart)) (x : Shown) (places : PartPlaces) → AreLaid width es pss ys
     → IsOneChanged i buffer ms (units_of es) → AreMovedAt i ms t es pss os → slice_get ys i ≡ Some x
-    → ArePutBy (moves_of os) ys i qs → map wide_part qs ≡ parts_left ms t x.path x.parts
-left_there width i buffer ms t es pss ys os x qs laid one moved at put =
+    → places ≡ moves_of os → map wide_part (put_along 0 places x.parts) ≡ parts_left ms t x.path x.parts
+left_there width i buffer ms t es pss ys os x places laid one moved at told_by =
     let f : IsFound width es pss i x = found width es pss ys i x laid at in
     let same : one.unit ≡ f.entry.unit = same_Some one.unit f.entry.unit (sym one.there ∙ f.unit) in
     let told : AreMovedParts ms t f.entry.unit f.parts os = moved f.entry.unit f.parts f.unit f.kept in
-    put x at
+    ap (λ ns. map wide_part (put_along 0 ns x.parts)) told_by ∙ wide_put 0 (moves_of os) x.parts
     ∙ by f.entry.unit.path (ap (is_changed ms) (sym same) ∙ one.changed) f.parts told.places f.laid.parts.of_kept
     ∙ ap (λ o. parts_left ms t o x.parts) (sym f.laid.path)
   where

@@ -29,7 +29,7 @@ use Rattle.tx_bridge.specs.Strays.{is_beside, path_at}
 use Rattle.tx_bridge.specs.PartsKept.{KeptParts}
 use Rattle.tx_unit_layout.specs.LaidAts.{LaidAt, laid_at, laid_ats}
 use Rattle.tx_unit_layout.specs.LaidUnits.{IsLaid, IsLaidOut, AreOf, AreLaidParts}
-use Rattle.tx_unit_layout.specs.Moving.{wide_part, laid_by}
+use Rattle.tx_unit_layout.specs.Moving.{wide_part, laid_by, PartPlaces, put_along}
 use Rattle.tx_unit_layout.specs.Views.{unit_view, IsReadable}
 use Rattle.tx_unit_layout.specs.declared.shown.Shown.{Shown}
 use Rattle.tx_view.specs.declared.carrying.Target.{Target}
@@ -46,11 +46,11 @@ use Rattle.tx_view.proofs.LaidByNumber.{arrived_by_number, laid_with, all_now_by
 
 -- ---- one entry is reset
 
-same_stays : (ps : List PlacedPart) (c : Bool) (y : Shown) → c ≡ false → IsLeftBy ps c y y
+same_stays : (ps : PartPlaces) (c : Bool) (y : Shown) → c ≡ false → IsLeftBy ps c y y
 same_stays ps c y e = subst (λ b. IsLeftBy ps b y y) (sym e) refl
 
 -- number i is none of these
-pub stay_all : (ps : List PlacedPart) (i k : ℕ) (ys : List Shown) → ((n : ℕ) → n < length ys → k + n ≡ i → ⊥)
+pub stay_all : (ps : PartPlaces) (i k : ℕ) (ys : List Shown) → ((n : ℕ) → n < length ys → k + n ≡ i → ⊥)
     → StayBut ps i k ys ys
 stay_all ps i k [] h = tt
 stay_all ps i k (y ∷ ys) h = (
@@ -58,7 +58,7 @@ stay_all ps i k (y ∷ ys) h = (
   stay_all ps i (k + 1) ys (λ n l e. h (suc n) (omega (arith, l)) (omega (arith, e))),
 )
 
-pub stay_but : (ps : List PlacedPart) (i k j : ℕ) (ys : List Shown) (d x : Shown) → i ≡ k + j → j < length ys
+pub stay_but : (ps : PartPlaces) (i k j : ℕ) (ys : List Shown) (d x : Shown) → i ≡ k + j → j < length ys
     → x ≡ left_with ps (slice_index_or ys j d) → StayBut ps i k ys (slice_set ys j x)
 stay_but ps i k j [] d x e l is = absurd (omega (arith, l))
 stay_but ps i k zero (y ∷ ys) d x e l is = (
@@ -72,16 +72,16 @@ stay_but ps i k (suc j) (y ∷ ys) d x e l is = (
 
 -- ---- what stays of what is shown
 
-pub stays_same : (ps : List PlacedPart) (y x : Shown) (c : Bool) → c ≡ false → IsLeftBy ps c y x → x ≡ y
+pub stays_same : (ps : PartPlaces) (y x : Shown) (c : Bool) → c ≡ false → IsLeftBy ps c y x → x ≡ y
 stays_same ps y x true e h = cc
 stays_same ps y x false e h = h
 
-pub stays_left : (ps : List PlacedPart) (y x : Shown) (c : Bool) → c ≡ true → IsLeftBy ps c y x → x ≡ left_with ps y
+pub stays_left : (ps : PartPlaces) (y x : Shown) (c : Bool) → c ≡ true → IsLeftBy ps c y x → x ≡ left_with ps y
 stays_left ps y x true e h = h
 stays_left ps y x false e h = cc
 
 -- number i is none of these
-pub stay_behind : (ps : List PlacedPart) (i k : ℕ) (ys xs : List Shown) → i < k → StayBut ps i k ys xs → xs ≡ ys
+pub stay_behind : (ps : PartPlaces) (i k : ℕ) (ys xs : List Shown) → i < k → StayBut ps i k ys xs → xs ≡ ys
 stay_behind ps i k [] [] less h = refl
 stay_behind ps i k [] (x ∷ xs) less h = absurd h
 stay_behind ps i k (y ∷ ys) [] less h = absurd h
@@ -99,12 +99,12 @@ had_here all k x false e = ap (option_and_then (λ o. o)) e
 abbrev entry : DocUnit → Option WideTrace → Entry
 entry v o = record { unit = v; trace = o }
 
--- these are left of the parts of that unit
-abbrev pub AreLeft : List Mod → WideTree → List PlacedPart → Shown → Type 0
-AreLeft ms t ps y = map wide_part ps ≡ parts_left ms t y.path y.parts
+-- so its parts are left
+abbrev pub AreLeft : List Mod → WideTree → PartPlaces → Shown → Type 0
+AreLeft ms t ps y = map wide_part (put_along 0 ps y.parts) ≡ parts_left ms t y.path y.parts
 
 -- the unit inside which the modifications are
-one_left : (width : ℕ) (ms : List Mod) (t : WideTree) (ps : List PlacedPart) (e : Entry) (ks : KeptParts)
+one_left : (width : ℕ) (ms : List Mod) (t : WideTree) (ps : PartPlaces) (e : Entry) (ks : KeptParts)
     (v : DocUnit) (o : Option WideTrace) (y x : Shown) → IsLaid width e ks ks y → x ≡ left_with ps y
     → v.path ≡ e.unit.path → AreLeft ms t ps y → AreDistinct (parts_within ms t e.unit ks)
     → IsLaid width (entry v o) (parts_within ms t e.unit ks) (parts_within ms t e.unit ks) x
@@ -116,7 +116,7 @@ one_left width ms t ps e ks v o y x laid left path are apart = record {
   same = λ a there. refl;
   parts =
       subst (λ (z : Shown). AreLaidParts width (parts_within ms t e.unit ks) z.parts) (sym left)
-      (left_laid width ms t e ks y ps laid are apart);
+      (left_laid width ms t e ks y (put_along 0 ps y.parts) laid are apart);
 }
   where
     off : (a : Attrs) → x.laid ≡ Some a → ⊥
@@ -159,7 +159,7 @@ trace_stays traces i k o off at =
     had_here traces k o (k == i) at ∙ ap (λ b. if b then None else o) (not_equal k i off)
 
 -- units behind number i
-stay_past : (width i k : ℕ) (ps : List PlacedPart) (traces : List (Option WideTrace)) (all : List DocUnit) (es : Kept)
+stay_past : (width i k : ℕ) (ps : PartPlaces) (traces : List (Option WideTrace)) (all : List DocUnit) (es : Kept)
     (pss : List KeptParts) (vs : List DocUnit) (ys xs : List Shown) → i < k → AreFrom traces k (traces_of es)
     → AreFrom all k (units_of es) → AreLaid width es pss ys → StayBut ps i k ys xs
     → AllSame all (numbers_but i k (length vs)) vs → paths_of vs ≡ paths_of (units_of es)
@@ -188,7 +188,7 @@ stay_past width i k ps traces all (e ∷ es) (ks ∷ pss) (v ∷ vs) (y ∷ ys) 
     )
 
 -- units from the j-th before number i on
-stay_laid : (width i k j : ℕ) (ms : List Mod) (t : WideTree) (ps : List PlacedPart)
+stay_laid : (width i k j : ℕ) (ms : List Mod) (t : WideTree) (ps : PartPlaces)
     (ts : List (Option WideTrace)) (all : List DocUnit) (es : Kept) (pss : List KeptParts) (vs : List DocUnit)
     (ys xs : List Shown) → i ≡ k + j
     → AreFrom ts k (traces_of es) → AreFrom all k (units_of es) → AreLaid width es pss ys → StayBut ps i k ys xs
@@ -231,18 +231,19 @@ stay_laid width i k (suc j) ms t ps ts all (e ∷ es) (ks ∷ pss) (v ∷ vs) (y
     )
 
 -- that unit stays readable
-left_reads : (ms : List Mod) (t : WideTree) (ps : List PlacedPart) (y : Shown) → IsReadable y → AreLeft ms t ps y
+left_reads : (ms : List Mod) (t : WideTree) (ps : PartPlaces) (y : Shown) → IsReadable y → AreLeft ms t ps y
     → IsReadable (left_with ps y)
 left_reads ms t ps y reads left =
-    let places : List (Option (List ℕ)) =
+    let qs : List PlacedPart = put_along 0 ps y.parts in
+    let stand : List (Option (List ℕ)) =
     option_map_or (λ p. map (carried_below ms t p) (laid_paths y.parts)) y.path [] in
-    let are : map wide_part ps ≡ laid_by places y.parts = left ∙ by y.path in
+    let are : map wide_part qs ≡ laid_by stand y.parts = left ∙ by y.path in
     record {
       placed = λ none. bare none (reads.placed none);
-      short = stays_short (λ (l : Line). l.items) line_under (λ b l. refl) (λ l. l.lines) places y.parts ps y.lines are
+      short = stays_short (λ (l : Line). l.items) line_under (λ b l. refl) (λ l. l.lines) stand y.parts qs y.lines are
           reads.short;
       short_items = stays_short (λ (p : Paragraph). p.items) paragraph_under (λ b p. refl) (λ l. l.paragraphs.items)
-          places y.parts ps y.paragraphs.items are reads.short_items;
+          stand y.parts qs y.paragraphs.items are reads.short_items;
       below = λ a is. absurd (let off : None ≡ Some a = is in cc);
     }
   where
@@ -258,21 +259,21 @@ left_reads ms t ps y reads left =
     bare : y.path ≡ None → (unit_view y).lines ≡ [] → (unit_view (left_with ps y)).lines ≡ []
     bare none lines =
         ap (λ qs. placed_lines qs ++ y.lines)
-        (none_wide ps (left ∙ ap (λ o. parts_left ms t o y.parts) none))
+        (none_wide (put_along 0 ps y.parts) (left ∙ ap (λ o. parts_left ms t o y.parts) none))
         ∙ second (placed_lines y.parts) y.lines lines
 
-one_reads : (ps : List PlacedPart) (y x : Shown) (c : Bool) → IsReadable y → IsLeftBy ps c y x
+one_reads : (ps : PartPlaces) (y x : Shown) (c : Bool) → IsReadable y → IsLeftBy ps c y x
     → (c ≡ true → IsReadable (left_with ps y)) → IsReadable x
 one_reads ps y x true reads same left = subst IsReadable (sym same) (left refl)
 one_reads ps y x false reads same left = subst IsReadable (sym same) reads
 
 -- number i is none of these
-past_reads : (ps : List PlacedPart) (i k : ℕ) (ys xs : List Shown) → i < k → AllByRecursion IsReadable ys
+past_reads : (ps : PartPlaces) (i k : ℕ) (ys xs : List Shown) → i < k → AllByRecursion IsReadable ys
     → StayBut ps i k ys xs → AllByRecursion IsReadable xs
 past_reads ps i k ys xs less reads stay =
     subst (AllByRecursion IsReadable) (sym (stay_behind ps i k ys xs less stay)) reads
 
-stay_reads : (ms : List Mod) (t : WideTree) (ps : List PlacedPart) (i k j : ℕ) (ys xs : List Shown) → i ≡ k + j
+stay_reads : (ms : List Mod) (t : WideTree) (ps : PartPlaces) (i k j : ℕ) (ys xs : List Shown) → i ≡ k + j
     → AllByRecursion IsReadable ys → StayBut ps i k ys xs
     → ((y : Shown) → slice_get ys j ≡ Some y → AreLeft ms t ps y) → AllByRecursion IsReadable xs
 stay_reads ms t ps i k j [] [] is reads stay left = tt
@@ -287,12 +288,12 @@ stay_reads ms t ps i k (suc j) (y ∷ ys) (x ∷ xs) is reads stay left = (
   stay_reads ms t ps i (k + 1) j ys xs (omega (arith, is)) reads.1 stay.1 left,
 )
 
-one_attributes : (ps : List PlacedPart) (y x : Shown) (c : Bool) → IsLeftBy ps c y x
+one_attributes : (ps : PartPlaces) (y x : Shown) (c : Bool) → IsLeftBy ps c y x
     → x.laid ≡ (if c then None else y.laid)
 one_attributes ps y x true same = ap (λ (z : Shown). z.laid) same
 one_attributes ps y x false same = ap (λ (z : Shown). z.laid) same
 
-stay_attributes : (ps : List PlacedPart) (i k : ℕ) (all : List (Option Attrs)) (ys xs : List Shown)
+stay_attributes : (ps : PartPlaces) (i k : ℕ) (all : List (Option Attrs)) (ys xs : List Shown)
     → AreFrom all k (laid_in ys) → StayBut ps i k ys xs → laid_in xs ≡ map (had all) (numbers_but i k (length ys))
 stay_attributes ps i k all [] [] from stay = refl
 stay_attributes ps i k all [] (x ∷ xs) from stay = absurd stay
@@ -304,7 +305,7 @@ stay_attributes ps i k all (y ∷ ys) (x ∷ xs) from stay =
     (stay_attributes ps i (k + 1) all ys xs (λ n m f. from (suc n) m (omega (arith, f))) stay.1)
 
 -- of what parts are laid out
-stay_ats : (width i k j : ℕ) (ms : List Mod) (t : WideTree) (ps : List PlacedPart) (es : Kept) (pss : List KeptParts)
+stay_ats : (width i k j : ℕ) (ms : List Mod) (t : WideTree) (ps : PartPlaces) (es : Kept) (pss : List KeptParts)
     (ys xs : List Shown) → i ≡ k + j → AreLaid width es pss ys → StayBut ps i k ys xs
     → ((y : Shown) → slice_get ys j ≡ Some y → AreLeft ms t ps y)
     → laid_parts_in xs ≡ left_but ms t j (units_of es) (laid_parts_in ys)
@@ -318,7 +319,7 @@ stay_ats width i k j ms t ps (e ∷ es) (ks ∷ pss) (y ∷ ys) [] is laid stay 
 stay_ats width i k zero ms t ps (e ∷ es) (ks ∷ pss) (y ∷ ys) (x ∷ xs) is laid stay left =
     ap (λ (z : Shown). map laid_at z.parts ∷ laid_parts_in xs)
     (stays_left ps y x (k == i) (are_equal k i (omega (arith, is))) stay.0)
-    ∙ ap (λ ls. ls ∷ laid_parts_in xs) (left_ats ms t e.unit.path y ps laid.0.path (left y refl))
+    ∙ ap (λ ls. ls ∷ laid_parts_in xs) (left_ats ms t e.unit.path y (put_along 0 ps y.parts) laid.0.path (left y refl))
     ∙ ap (λ zs. left_at ms t e.unit.path (map laid_at y.parts) ∷ laid_parts_in zs)
     (stay_behind ps i (k + 1) ys xs (omega (arith, is)) stay.1)
 stay_ats width i k (suc j) ms t ps (e ∷ es) (ks ∷ pss) (y ∷ ys) (x ∷ xs) is laid stay left =
@@ -386,7 +387,7 @@ carried_by width buffer ms t old new pss qss ks js olds xs before after (InPlace
     subst (AllByRecursion AreDistinct) parts (all_distinct new qss hold) in
     let entries : Kept = taken_from (traces_of old) (numbers_but i 0 (length vs)) vs in
     let stay : AreLaid width entries (parts_but ms t i us pss) xs =
-    stay_laid width i 0 i ms t ps (traces_of old) us old pss vs olds xs (omega arith) (from_first (traces_of old))
+    stay_laid width i 0 i ms t ps.items (traces_of old) us old pss vs olds xs (omega arith) (from_first (traces_of old))
     (from_first us) was.laid moves same to.1 left.0 apart in
     record {
       laid_out =
@@ -394,13 +395,13 @@ carried_by width buffer ms t old new pss qss ks js olds xs before after (InPlace
           (subst (λ (is : List KeptParts). AreLaid width entries is xs) (sym parts) stay);
       readable =
           All-from_recursion IsReadable xs
-          (stay_reads ms t ps i 0 i olds xs (omega arith) (recursion_from_All IsReadable olds was.readable) moves
+          (stay_reads ms t ps.items i 0 i olds xs (omega arith) (recursion_from_All IsReadable olds was.readable) moves
           left.0);
       attributes =
-          stay_attributes ps i 0 (laid_in olds) olds xs (from_first (laid_in olds)) moves
+          stay_attributes ps.items i 0 (laid_in olds) olds xs (from_first (laid_in olds)) moves
           ∙ ap (λ n. map (had (laid_in olds)) (numbers_but i 0 n)) many ∙ ap (map (had (laid_in olds))) (sym is);
       laid_parts =
-          stay_ats width i 0 i ms t ps old pss olds xs (omega arith) was.laid moves left.0
+          stay_ats width i 0 i ms t ps.items old pss olds xs (omega arith) was.laid moves left.0
           ∙ ap (λ o. option_map_or (λ k. left_but ms t k us (laid_parts_in olds)) o
           (all_now_by_number lss told 0 (Sources buffer ms t us vs))) (sym way.0);
       strays =

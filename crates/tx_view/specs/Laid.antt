@@ -1,6 +1,7 @@
 -- Units that are laid out, with what is kept of them. Private clauses cite these.
 use Rattle.std.specs.Prelude.{◌≡◌, ℕ, ◌≤◌, ◌<◌, ◌+◌, ◌*◌, ◌^◌, ◌==◌, Bool, true, false, if◌then◌else◌, List, []}
 use Rattle.std.specs.Prelude.{◌∷◌, ◌++◌, map, length, Option, Some, None, is_some, option_and_then, slice_get, ◌⊎◌}
+use Rattle.std.specs.Global.{Vec}
 use Rattle.std.specs.List.{All, AllByRecursion, filter, filter_map, list_all}
 use Rattle.std.specs.Option.{option_map, option_map_or}
 use Rattle.tx_tree.specs.WideTree.{WideTree}
@@ -17,7 +18,6 @@ use Rattle.tx_bridge.specs.Carrying.{HaveSameTrees}
 use Rattle.tx_bridge.specs.Entries.{Entry, Kept, outcome_of}
 use Rattle.tx_bridge.specs.CarryingParts.{carried_below}
 use Rattle.tx_bridge.specs.InPlace.{numbers_but, IsOneChanged}
-use Rattle.tx_bridge.specs.MovedParts.{places_by}
 use Rattle.tx_bridge.specs.Names.{Sources}
 use Rattle.tx_bridge.specs.PartMoves.{Move, NoneAbove}
 use Rattle.tx_bridge.specs.Strays.{kept_strays, is_beside, path_at}
@@ -27,7 +27,7 @@ use Rattle.tx_part_layout.specs.declared.laid.PlacedPart.{PlacedPart}
 use Rattle.tx_part_layout.specs.LaidParts.{laid_paths}
 use Rattle.tx_unit_layout.specs.LaidAts.{LaidAt, laid_at}
 use Rattle.tx_unit_layout.specs.LaidUnits.{IsLaidOut, IsLaid, WasLaid}
-use Rattle.tx_unit_layout.specs.Moving.{WidePart, wide_part, put_at, laid_by}
+use Rattle.tx_unit_layout.specs.Moving.{WidePart, wide_part, put_at, laid_by, PartPlaces, put_along}
 use Rattle.tx_unit_layout.specs.Views.{unit_view}
 use Rattle.tx_unit_layout.specs.declared.shown.Shown.{Shown}
 use Rattle.tx_view.specs.Costs.{items_at}
@@ -234,45 +234,45 @@ abbrev pub parts_left : List Mod → WideTree → Option (List ℕ) → List Pla
 parts_left ms t path ps =
     option_map_or (λ p. laid_by (map (carried_below ms t p) (laid_paths ps)) ps) path []
 
--- so it is of unit i, where it is told of its parts where they stand afterwards
-abbrev pub ArePutBy : List (ℕ × Option (List ℕ)) → List Shown → ℕ → List PlacedPart → Type 0
-ArePutBy places xs i ps = (x : Shown) → slice_get xs i ≡ Some x
-    → map wide_part ps ≡ laid_by (places_by 0 places (laid_paths x.parts)) x.parts
+-- where parts of the unit that changes stand then, as a target tells it
+abbrev pub ToldPlaces : Type 0
+ToldPlaces = Vec (ℕ × Option (List ℕ))
 
--- it isn't laid out any more, and this is of its parts
-abbrev pub left_with : List PlacedPart → Shown → Shown
-left_with ps x = record x { laid = None; parts = ps }
+-- it isn't laid out any more, and what is laid out of its parts is put where they stand afterwards
+abbrev pub left_with : PartPlaces → Shown → Shown
+left_with places x = record x { laid = None; parts = put_along 0 places x.parts }
 
--- where the flag is set it is left with these parts; else what was shown of it stays as it was
-abbrev pub IsLeftBy : List PlacedPart → Bool → Shown → Shown → Type 0
-IsLeftBy ps true y x = x ≡ left_with ps y
-IsLeftBy ps false y x = x ≡ y
+-- where the flag is set it is left so; else what was shown of it stays as it was
+abbrev pub IsLeftBy : PartPlaces → Bool → Shown → Shown → Type 0
+IsLeftBy places true y x = x ≡ left_with places y
+IsLeftBy places false y x = x ≡ y
 
 -- so it is of all units from number k on, where number i is left so
-abbrev pub StayBut : List PlacedPart → ℕ → ℕ → List Shown → List Shown → Type 0
-StayBut ps i k [] [] = Unit {0}
-StayBut ps i k [] (x ∷ xs) = ⊥
-StayBut ps i k (y ∷ ys) [] = ⊥
-StayBut ps i k (y ∷ ys) (x ∷ xs) = IsLeftBy ps (k == i) y x × StayBut ps i (k + 1) ys xs
+abbrev pub StayBut : PartPlaces → ℕ → ℕ → List Shown → List Shown → Type 0
+StayBut places i k [] [] = Unit {0}
+StayBut places i k [] (x ∷ xs) = ⊥
+StayBut places i k (y ∷ ys) [] = ⊥
+StayBut places i k (y ∷ ys) (x ∷ xs) = IsLeftBy places (k == i) y x × StayBut places i (k + 1) ys xs
 
 -- what stays laid out of parts that stand in no unit, where the unit of number i of these changes alone
 abbrev pub placed_beside : ℕ → List DocUnit → List PlacedPart → List PlacedPart
 placed_beside i us ps = filter (λ p. is_beside (path_at i us) p.path) ps
 
--- Where what is shown stays in place, this is left of the parts of the unit that has changed. Else it goes to blank
+-- Where what is shown stays in place, so are the parts left of the unit that has changed. Else it goes to blank
 -- ones, to which went before what is laid out of parts that have moved. Of parts that stand in no unit `before` was
 -- laid out, and `after` is.
 abbrev pub IsLeft : List Mod → WideTree → List DocUnit → List Move → List DocUnit → Target → List Shown
     → List PlacedPart → List PlacedPart → Type 0
-IsLeft ms t us moves vs (InPlace i silent ps) xs before after =
-    ((x : Shown) → slice_get xs i ≡ Some x → map wide_part ps ≡ parts_left ms t x.path x.parts)
+IsLeft ms t us moves vs (InPlace i silent places) xs before after =
+    ((x : Shown) → slice_get xs i ≡ Some x
+    → map wide_part (put_along 0 places.items x.parts) ≡ parts_left ms t x.path x.parts)
     × (after ≡ placed_beside i us before)
 IsLeft ms t us moves vs (Onto blanks) xs before after =
     HaveArrived (placed_in xs before) (going (placed_in xs before) moves) vs blanks.items after
 
 -- What is shown stays in place where each unit keeps its number and its path, but for one that has changed.
 abbrev pub IsTarget : List DocUnit → List DocUnit → List (Option ℕ) → Target → Type 0
-IsTarget us vs ss (InPlace i silent ps) =
+IsTarget us vs ss (InPlace i silent places) =
     (ss ≡ numbers_but i 0 (length vs)) × (map (λ v. v.path) vs ≡ map (λ u. u.path) us)
 IsTarget us vs ss (Onto blanks) = Unit {0}
 
@@ -297,23 +297,23 @@ pub record AreUnitsBut (i : ℕ) (ms : List Mod) (t : WideTree) (us vs : List Do
 
 -- It stays in place where one paragraph is found to change alone. Each new unit has the tree of the old one that it is.
 abbrev pub IsWay : ℕ → List Mod → WideTree → List DocUnit → List DocUnit → List (Option ℕ) → Target → Type 0
-IsWay buffer ms t us vs ss (InPlace i silent ps) =
+IsWay buffer ms t us vs ss (InPlace i silent places) =
     (exchanged buffer ms t us ≡ Some i) × IsOneChanged i buffer ms us × HaveSameTrees us vs ss
     × AreUnitsBut i ms t us vs
 IsWay buffer ms t us vs ss (Onto blanks) = (exchanged buffer ms t us ≡ None) × HaveSameTrees us vs ss
 
 abbrev pub IsFew : Target → Type 0
-IsFew (InPlace i silent ps) = Unit {0}
+IsFew (InPlace i silent places) = Unit {0}
 IsFew (Onto blanks) = length blanks.items < 2 ^ 32
 
 -- what was shown has gone there
 abbrev pub HasGone : Target → List (Option ℕ) → List Shown → List Shown → Type 0
-HasGone (InPlace i silent ps) ss old xs = StayBut ps i 0 old xs
+HasGone (InPlace i silent places) ss old xs = StayBut places.items i 0 old xs
 HasGone (Onto blanks) ss old xs = xs ≡ moved ss old blanks.items
 
 -- where `silent`, what was kept of the unit that has changed set no name
 abbrev pub SetNoName : Kept → Target → Type 0
-SetNoName kept (InPlace i silent ps) =
+SetNoName kept (InPlace i silent places) =
     silent ≡ true → (e : Entry) → slice_get kept i ≡ Some e → (env : NameMap) → env_behind env e.trace ≡ env
 SetNoName kept (Onto blanks) = Unit {0}
 
@@ -327,7 +327,7 @@ pub record WasShown (old : List Shown) (i : ℕ) (f : Former) : Type 0 where
 
 -- The view was fresh, and this unit alone has changed, of which what was kept set no name.
 pub record IsFormer (to : Target) (fresh : Bool) (old : List Shown) (f : Former) : Type 0 where
-  pub parts : List PlacedPart
-  pub target : to ≡ InPlace f.unit true parts
+  pub places : ToldPlaces
+  pub target : to ≡ InPlace f.unit true places
   pub was_fresh : fresh ≡ true
   pub was : WasShown old f.unit f

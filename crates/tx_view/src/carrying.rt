@@ -1,6 +1,6 @@
 // What is shown of units, and of strays, which are parts that stand in no unit, goes with them through an edit.
 ghost use Rattle.std.specs.Prelude.{◌≡◌, ℕ, [], ◌+◌, ◌≤◌, ◌<◌, ◌^◌, length, slice_get, if◌then◌else◌, IfOk, OnOk};
-ghost use Rattle.std.specs.Prelude.{OnErr, Some, None, IfSome, IsTrue, MatchOption, true, false, All};
+ghost use Rattle.std.specs.Prelude.{OnErr, Some, None, IfSome, IsTrue, MatchOption, true, false, All, option_map};
 ghost use Rattle.tx_tree.specs.WideTree.{WideTree};
 ghost use Rattle.tx_mod.specs.Followed.{changed_by_all};
 ghost use Rattle.tx_mod.specs.InTurn.{cost_of};
@@ -19,7 +19,7 @@ ghost use Rattle.tx_unit_layout.specs.Views.{unit_view};
 ghost use Rattle.tx_view.specs.Exchanged.{IsNow, IsExchanged, stays_alone, exchanged_in, parts_after, strays_after};
 ghost use Rattle.tx_view.specs.Laid.{IsBlank, AreBlank, HaveArrived, placed_in, placed_beside, going, taking_shown};
 ghost use Rattle.tx_view.specs.Laid.{source_shown, moved};
-ghost use Rattle.tx_view.specs.Laid.{ArePutBy, left_with, StayBut, IsLeft, IsWay, IsTarget, IsFew, HasGone, SetNoName};
+ghost use Rattle.tx_view.specs.Laid.{left_with, StayBut, IsLeft, IsWay, IsTarget, IsFew, HasGone, SetNoName};
 ghost use Rattle.tx_view.specs.Laid.{WasShown, IsFormer, AreLaid, LaidGoes};
 
 use crate::arriving::put_either;
@@ -143,25 +143,25 @@ pub(crate) struct Former {
     pub(crate) unmarked: bool,
 }
 
-// The unit isn't laid out any more, and this is laid out of its parts. Answers for which attributes it was, and whether
-// no line was the last of its page.
-fn reset(shown: &mut Shown, parts: LaidParts) -> (Option<Attrs>, bool)
-    ensures shown { shown.new ≡ left_with parts shown.old }
+// The unit isn't laid out any more, and what is laid out of its parts goes to these places. Answers for which
+// attributes it was, and whether no line was the last of its page.
+fn reset(shown: &mut Shown, places: Vec<(usize, Option<Path>)>) -> (Option<Attrs>, bool)
+    ensures shown { shown.new ≡ left_with places.items shown.old }
     ensures attrs { result.0 ≡ shown.old.laid }
     ensures unmarked { result.1 ≡ true → All Unmarked (unit_view shown.old).lines }
 {
     let unmarked = shown.is_unmarked();
-    shown.parts = parts;
+    shown.parts.put(places);
     (mem::replace(&mut shown.laid, None), unmarked)
 }
 
 // So it is of the unit of this number.
-fn reset_at(all: &mut [Shown], unit: usize, parts: LaidParts) -> Option<Former>
-    ensures stay { StayBut parts unit 0 all.old all.new }
+fn reset_at(all: &mut [Shown], unit: usize, places: Vec<(usize, Option<Path>)>) -> Option<Former>
+    ensures stay { StayBut places.items unit 0 all.old all.new }
     ensures former { IfSome result (λ f. WasShown all.old unit f) }
 {
     if unit < all.len() {
-        let (laid, unmarked) = reset(&mut all[unit], parts);
+        let (laid, unmarked) = reset(&mut all[unit], places);
         let attrs = laid?;
         return Some(Former {
             unit,
@@ -175,27 +175,28 @@ fn reset_at(all: &mut [Shown], unit: usize, parts: LaidParts) -> Option<Former>
 // What is shown of all units stays, or else what is hidden, but this one isn't laid out any more.
 fn move_in_place(
     unit: usize,
-    parts: LaidParts,
+    places: Vec<(usize, Option<Path>)>,
     fresh: bool,
     shown: &mut Vec<Shown>,
     hidden: &mut Vec<Shown>,
 ) -> Option<Former>
-    ensures stay { StayBut parts unit 0 (if fresh then shown.old.items else hidden.old.items) hidden.new.items }
+    ensures stay { StayBut places.items unit 0 (if fresh then shown.old.items else hidden.old.items)
+        hidden.new.items }
     ensures former { IfSome result
         (λ f. WasShown (if fresh then shown.old.items else hidden.old.items) unit f) }
 {
     if fresh {
         mem::swap(shown, hidden);
     }
-    reset_at(hidden, unit, parts)
+    reset_at(hidden, unit, places)
 }
 
 /// Where what is shown of units goes through an edit: it stays in place, but for this one unit, or it goes to these,
 /// of which nothing is laid out. Of that one unit it is said whether what was kept of it is known to set no name, and
-/// what stays laid out of its parts.
+/// where parts of it stand then, as `LaidParts::put` takes them.
 #[derive(Drop)]
 pub(crate) enum Target {
-    InPlace(usize, bool, LaidParts),
+    InPlace(usize, bool, Vec<(usize, Option<Path>)>),
     Onto(Vec<Shown>),
 }
 
@@ -249,8 +250,8 @@ pub(crate) fn move_shown(
         (λ f. IsFormer target fresh (if fresh then shown.old.items else hidden.old.items) f) }
 {
     match target {
-        Target::InPlace(unit, silent, parts) => {
-            let former = move_in_place(unit, parts, fresh, shown, hidden);
+        Target::InPlace(unit, silent, places) => {
+            let former = move_in_place(unit, places, fresh, shown, hidden);
             former_of(silent, fresh, former)
         }
         Target::Onto(blanks) => {
@@ -385,37 +386,29 @@ fn is_silent_at(bridges: &Bridges, unit: usize) -> bool
     }
 }
 
-// What is laid out of the parts of the unit of this number, where these moved.
-fn parts_put(
-    alloc: Global,
-    all: &[Shown],
-    unit: usize,
-    moved: &[(usize, Option<Part>)],
-) -> Result<LaidParts, Memory>
-    requires { unit < length all.now }
-    ensures { IfOk result (λ ps. ArePutBy (moves_of moved.now) all.now unit ps) }
+// Where the part stands, if there is one.
+fn place_told(alloc: Global, part: &Option<Part>) -> Result<Option<Path>, Memory>
+    ensures { IfOk result (λ o. o ≡ option_map (λ d. d.path) part.now) }
 {
-    all[unit].parts.moved(alloc, moved)
+    match part {
+        None => Ok(None),
+        Some(there) => Ok(Some(there.path.copy(alloc)?)),
+    }
 }
 
-// The same, of a unit that is shown, or else hidden.
-fn parts_moved(
+// Where parts of these numbers stand then, which are told themselves.
+fn places_told(
     alloc: Global,
-    fresh: bool,
-    shown: &[Shown],
-    hidden: &[Shown],
-    unit: usize,
     moved: &[(usize, Option<Part>)],
-) -> Result<LaidParts, Memory>
-    requires { unit < length (if fresh then shown.now else hidden.now) }
-    ensures { IfOk result
-        (λ ps. ArePutBy (moves_of moved.now) (if fresh then shown.now else hidden.now) unit ps) }
+) -> Result<Vec<(usize, Option<Path>)>, Memory>
+    ensures { IfOk result (λ places. places.items ≡ moves_of moved.now) }
 {
-    if fresh {
-        parts_put(alloc, shown, unit, moved)
-    } else {
-        parts_put(alloc, hidden, unit, moved)
+    let mut places = Vec::with_capacity(alloc, moved.len())?;
+    for part in moved {
+        let place = place_told(alloc, &part.1)?;
+        places.push((part.0, place))?;
     }
+    Ok(places)
 }
 
 // What is laid out of strays stays where the unit of this number changes alone, but of those whose trees hold it.
@@ -508,11 +501,11 @@ fn carried_kept<L: Ledger>(
         Some((changed, paragraph)) => {
             let silent = is_silent_at(bridges, changed);
             let moved = bridges.moved_parts(alloc, before, mods, changed, steps)?;
-            let parts = parts_moved(alloc, fresh, shown, hidden, changed, &moved)?;
+            let places = places_told(alloc, &moved)?;
             keep_beside(bridges, changed, strays);
             laid_goes_law(bridges, before, mods, &paragraph, changed);
             bridges.carry_in_place(before, mods, paragraph, changed, moved);
-            Ok(Target::InPlace(changed, silent, parts))
+            Ok(Target::InPlace(changed, silent, places))
         }
         None => Ok(Target::Onto(carried_anew(
             alloc, bridges, fresh, shown, hidden, strays, after, buffer, before, mods, steps,

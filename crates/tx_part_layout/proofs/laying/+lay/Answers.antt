@@ -70,9 +70,11 @@ lay_child-returns-clause-laid g t c =
     let u : Laying = record x { frames = c.replace-outer.new.dest } in
     let v = c.lay_tree.new.laying in
     let y : Laying = record v { frames = c.replace-outer.result } in
-    alone_laid c.args.old.now c.args.parts.now c.args.levels x u v y c.args.t.now (record { next = refl; unit = refl })
-    refl (ap (λ fs. fs.items) c.replace-outer.ensures.after ∙ c.new.ensures.items) (record { next = refl; unit = refl })
-    refl (ap (λ fs. fs.items) c.replace-outer.ensures.value) c.in_ok-lay_tree.ensures.laid
+    alone_laid c.args.old.now c.args.parts.now c.args.levels x u v y c.args.t.now
+    (record { next = refl; slots = refl; unit = refl }) refl
+    (ap (λ fs. fs.items) c.replace-outer.ensures.after ∙ c.new.ensures.items)
+    (record { next = refl; slots = refl; unit = refl }) refl
+    (ap (λ fs. fs.items) c.replace-outer.ensures.value) c.in_ok-lay_tree.ensures.laid
 
 pub lay_with-returns-clause-laid : goal.lay_with-returns-clause-laid
 lay_with-returns-clause-laid g t c =
@@ -91,9 +93,9 @@ lay_with-returns-clause-laid g t c =
     (sym c.in-Some.ensures.items ∙ c.in_ok-lay_tree.ensures.laid.frames ∙ pushed) in
     on_ok_weaker c.restore_each.result
     (λ restored. with_laid c.args.old.now c.args.parts.now x u v y ps b c.args.levels f c.args.t.now opens.2
-    (record { next = refl; unit = refl })
+    (record { next = refl; slots = refl; unit = refl })
     (c.in_ok-set_each.ensures ∙ ap (λ qs. settings_set qs x.attrs) (c.deref.ensures.value ∙ settings))
-    pushed settings c.in_ok-before.ensures (record { next = refl; unit = refl })
+    pushed settings c.in_ok-before.ensures (record { next = refl; slots = refl; unit = refl })
     (restored ∙ ap (λ qs. settings_given_back qs c.in-Some.frame.before v.attrs) c.deref-2.ensures.value
     ∙ ap (λ (g : Frame). settings_given_back g.settings.items g.before v.attrs) both.1
     ∙ ap (λ qs. settings_given_back qs c.in_ok-before.before v.attrs) settings

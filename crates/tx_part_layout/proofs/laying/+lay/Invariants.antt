@@ -25,7 +25,7 @@ invariant-lay_children-loop-kid g l = record {
       HasLaid l.old l.parts
       (children_shown (parts_shown l.levels) l.fn.laying.attrs (left_values l.parts l.fn.laying.next) l.kid-items)
       l.fn.laying z;
-  right : IsRightSoFar l.width l.laying;
+  right : IsRightSoFar l.width l.old l.laying;
   counted : l.steps + l.fn.laying.unit.items ≡ l.fn.steps + l.laying.unit.items;
   rises : l.fn.steps ≤ l.steps;
 }

@@ -1,30 +1,15 @@
-use Rattle.std.proofs.Common.{refl, sym, subst, Some}
-use Rattle.std.specs.List.{All, IsDistinct}
-use Rattle.std.specs.Str.{bytes_eq}
+use Rattle.std.proofs.Common.{refl, Some}
 use Rattle.tx_exec.specs.Outcomes.{wide_trace}
-use Rattle.tx_part_layout.specs.LaidParts.{IsLaidPart, laid_paths}
-use Rattle.tx_part_layout.specs.declared.laid.PlacedPart.{PlacedPart}
-use Rattle.tx_unit_layout.specs.LaidUnits.{AreLaidParts}
 use Rattle.tx_unit_layout.specs.declared.shown.Shown.{Shown}
 use Rattle.tx_unit_layout.proofs.ByParts.{IsMade, out_by_parts, readable_by_parts, ats_by_parts, parts_by_parts}
 use Rattle.tx_unit_layout.proofs.ByParts.{of_by_parts, items_anew_is, items_within}
 use Rattle.tx_unit_layout.proofs.Renewed.{all_of_value, now_laid}
 use Rattle.tx_unit_layout.proofs.by_parts.lay_by_parts.Goals as goal
 
-pub lay_parts-requires-clause-distinct : goal.lay_parts-requires-clause-distinct
-lay_parts-requires-clause-distinct g c =
-    subst (λ ps. IsDistinct bytes_eq (laid_paths ps)) (sym c.all.ensures) c.requires.was_laid.laid.parts.distinct
-
-pub lay_parts-requires-clause-laid : goal.lay_parts-requires-clause-laid
-lay_parts-requires-clause-laid g c =
-    subst (All (λ (p : PlacedPart). IsLaidPart c.args.width p.laid.value)) (sym c.all.ensures)
-    c.requires.was_laid.laid.parts.each
-
-pub lay_parts-requires-clause-same : goal.lay_parts-requires-clause-same
-lay_parts-requires-clause-same g c =
-    all_of_value c.args.width c.requires.was_laid.held c.all.result.now c.args.parts.now
-    (subst (AreLaidParts c.args.width c.requires.was_laid.held) (sym c.all.ensures) c.requires.was_laid.laid.parts)
-    c.requires.was_laid.stays
+pub lay_again-requires-clause-same : goal.lay_again-requires-clause-same
+lay_again-requires-clause-same g c =
+    all_of_value c.args.width c.requires.was_laid.held c.args.shown.now.parts c.args.parts.now
+    c.requires.was_laid.laid.parts c.requires.was_laid.stays
 
 pub returns-clause-was_laid : goal.returns-clause-was_laid
 returns-clause-was_laid g c =
@@ -81,8 +66,8 @@ returns-clause-items g c =
     let trace = wide_trace c.args.trace.now in
     let shows = c.in_ok-laid.ensures.shown at.0 at.1 trace at.2 at.3 in
     items_anew_is c.args.width c.args.attrs c.args.unit.now trace c.args.parts.now c.in_ok-laid.laid
-    c.requires.body c.in_ok-laid.ensures.laid shows c.all.result.now c.args.shown.now.parts
-    c.all.ensures c.in_ok-laid.laid.items c.in_ok-laid.ensures.items
+    c.requires.body c.in_ok-laid.ensures.laid shows c.args.shown.now.parts c.args.shown.now.parts
+    refl c.in_ok-laid.laid.items c.in_ok-laid.ensures.items
 
 pub returns-clause-within : goal.returns-clause-within
 returns-clause-within g c =
@@ -90,5 +75,5 @@ returns-clause-within g c =
     let trace = wide_trace c.args.trace.now in
     let shows = c.in_ok-laid.ensures.shown at.0 at.1 trace at.2 at.3 in
     items_within c.args.width c.args.attrs c.args.unit.now trace c.args.parts.now c.in_ok-laid.laid
-    c.requires.body c.in_ok-laid.ensures.laid shows c.all.result.now c.args.shown.now.parts
-    c.all.ensures c.in_ok-laid.laid.items c.in_ok-laid.ensures.items
+    c.requires.body c.in_ok-laid.ensures.laid shows c.args.shown.now.parts c.args.shown.now.parts
+    refl c.in_ok-laid.laid.items c.in_ok-laid.ensures.items

@@ -10,7 +10,7 @@ use Rattle.tx_unit_layout.proofs.laid_parts.are_marked.Goals as goal
 pub loop-part-preserved : goal.loop-part-preserved
 loop-part-preserved c =
     let own : All Unmarked c.part-item.result.laid.value.lines =
-    subst (λ l. All Unmarked l.lines) c.deref.ensures (c.if-not-is_unmarked.ensures refl) in
+    c.part-item.result.marked c.if-part.false in
     subst (All Unmarked)
     (sym (placed_more c.args.parts.now c.loop-part.part-index c.part-item.result c.loop-part-test.true c.part-item.is))
     (All-append Unmarked (placed_lines (take c.loop-part.part-index c.args.parts.now)) (lines_placed c.part-item.result)

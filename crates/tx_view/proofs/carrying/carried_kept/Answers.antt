@@ -1,4 +1,4 @@
-use Rattle.std.proofs.Common.{◌≡◌, ◌∙◌, ℕ, List, length, Option, Some, ap, sym, subst, slice_index_or, if◌then◌else◌}
+use Rattle.std.proofs.Common.{◌≡◌, ◌∙◌, List, length, Some, ap, sym, subst, slice_index_or, if◌then◌else◌}
 use Rattle.std.specs.List.{filter}
 use Rattle.std.specs.Option.{option_map_or}
 use Rattle.std.specs.Prelude.{option_and_then}
@@ -8,7 +8,6 @@ use Rattle.tx_doc.specs.declared.buffer.Buffer.{Buffer}
 use Rattle.tx_mod.specs.Followed.{changed_by_all}
 use Rattle.tx_units.specs.declared.kinds.Unit.{Unit as DocUnit}
 use Rattle.tx_units.specs.Units.{units}
-use Rattle.tx_walk.specs.declared.part.Part.{Part as DonePart}
 use Rattle.tx_bridge.specs.Entries.{units_of}
 use Rattle.tx_bridge.specs.MovedParts.{moves_of}
 use Rattle.tx_bridge.specs.Names.{CarryTraces, CarryParts, CarryStrays, PartMoves, Sources}
@@ -16,11 +15,11 @@ use Rattle.tx_bridge.specs.PartsKept.{KeptParts}
 use Rattle.tx_bridge.specs.Strays.{StandAside, is_beside, kept_strays, path_at}
 use Rattle.tx_unit_layout.specs.declared.shown.Shown.{Shown}
 use Rattle.tx_view.specs.Exchanged.{IsExchanged, exchanged, exchanged_in}
-use Rattle.tx_view.specs.Laid.{ArePutBy, LaidGoes, parts_left}
+use Rattle.tx_view.specs.Laid.{LaidGoes, parts_left}
 use Rattle.tx_view.proofs.Aside.{aside_after, aside_before, kept_beside}
 use Rattle.tx_view.proofs.Blank.{tree_at}
 use Rattle.tx_view.proofs.Exchanging.{carried_at}
-use Rattle.tx_view.proofs.OfParts.{laid_inside, left_there}
+use Rattle.tx_view.proofs.OfParts.{left_there}
 use Rattle.tx_view.proofs.carrying.carried_kept.Goals as goal
 
 pub moved_parts-requires-clause-applies : goal.moved_parts-requires-clause-applies
@@ -55,16 +54,8 @@ carried_anew-requires-clause-applies g c = (
       ∙ c.requires.changed,
 )
 
-pub parts_moved-requires : goal.parts_moved-requires
-parts_moved-requires g c =
-    let h : IsExchanged c.in-Some.changed c.args.buffer c.args.mods.now c.args.tree.now c.in-Some.paragraph
-    (units_of c.args.bridges.now.kept) = (rw c.in-Some.is at c.in_ok-changed.ensures).0 in
-    laid_inside c.requires.laid.0 c.args.bridges.now.kept c.args.bridges.now.parts
-    (if c.args.fresh then c.args.shown.now else c.args.hidden.now) c.in-Some.changed h.one.unit c.requires.laid.1
-    h.one.there
-
-pub returns-in_ok-parts-in-Some-clause-left : goal.returns-in_ok-parts-in-Some-clause-left
-returns-in_ok-parts-in-Some-clause-left g c =
+pub returns-in_ok-places-in-Some-clause-left : goal.returns-in_ok-places-in-Some-clause-left
+returns-in_ok-places-in-Some-clause-left g c =
     let xs : List Shown = if c.args.fresh then c.args.shown.now else c.args.hidden.now in
     let h : IsExchanged c.in-Some.changed c.args.buffer c.args.mods.now c.args.tree.now c.in-Some.paragraph
     (units_of c.args.bridges.now.kept) = (rw c.in-Some.is at c.in_ok-changed.ensures).0 in (
@@ -72,16 +63,15 @@ returns-in_ok-parts-in-Some-clause-left g c =
           left_there c.requires.laid.0 c.in-Some.changed c.args.buffer c.args.mods.now
           (slice_index_or c.args.buffers.now c.args.buffer c.index-buffers-buffer.result).tree
           c.args.bridges.now.kept c.args.bridges.now.parts xs c.in_ok-moved-in-Some.moved.items x
-          c.in_ok-parts-in-Some.parts c.requires.laid.1 h.one c.in_ok-moved-in-Some.ensures.moved at
-          (subst (λ (os : List (ℕ × Option DonePart)). ArePutBy (moves_of os) xs c.in-Some.changed
-          c.in_ok-parts-in-Some.parts) c.deref.ensures.value c.in_ok-parts-in-Some.ensures)
+          c.in_ok-places-in-Some.places.items c.requires.laid.1 h.one c.in_ok-moved-in-Some.ensures.moved at
+          (c.in_ok-places-in-Some.ensures ∙ ap moves_of c.deref.ensures.value)
           ∙ ap (λ t. parts_left c.args.mods.now t x.path x.parts)
           (sym (tree_at c.args.buffers.now c.args.buffer c.index-buffers-buffer.result c.requires.within)),
       c.keep_beside.ensures,
     )
 
-pub returns-in_ok-parts-in-Some-clause-beside : goal.returns-in_ok-parts-in-Some-clause-beside
-returns-in_ok-parts-in-Some-clause-beside g c =
+pub returns-in_ok-places-in-Some-clause-beside : goal.returns-in_ok-places-in-Some-clause-beside
+returns-in_ok-places-in-Some-clause-beside g c =
     let us : List DocUnit = units_of c.args.bridges.now.kept in
     let ks : KeptParts = kept_strays c.args.bridges.now.strays in
     let t : WideTree = tree_of c.args.buffers.now c.args.buffer in
@@ -93,8 +83,8 @@ returns-in_ok-parts-in-Some-clause-beside g c =
     (CarryStrays (PartMoves c.args.buffer c.args.mods.now t us c.args.bridges.now.parts ks (units c.args.after.now))
     (length (units c.args.after.now)))) (sym found)
 
-pub returns-in_ok-parts-in-Some-clause-aside : goal.returns-in_ok-parts-in-Some-clause-aside
-returns-in_ok-parts-in-Some-clause-aside g c =
+pub returns-in_ok-places-in-Some-clause-aside : goal.returns-in_ok-places-in-Some-clause-aside
+returns-in_ok-places-in-Some-clause-aside g c =
     let h : IsExchanged c.in-Some.changed c.args.buffer c.args.mods.now c.args.tree.now c.in-Some.paragraph
     (units_of c.args.bridges.now.kept) = (rw c.in-Some.is at c.in_ok-changed.ensures).0 in
     subst (λ (bs : List Buffer). StandAside (document_of bs) c.carry_in_place.new.self.strays) (sym c.requires.after)
@@ -131,52 +121,52 @@ returns-in_ok-carried_anew-in-None-clause-aside g c =
     c.requires.changed c.requires.aside c.in_ok-carried_anew-in-None.ensures.stand
     c.in_ok-carried_anew-in-None.ensures.stay)
 
-pub returns-in_ok-parts-in-Some-clause-target : goal.returns-in_ok-parts-in-Some-clause-target
-returns-in_ok-parts-in-Some-clause-target g c =
+pub returns-in_ok-places-in-Some-clause-target : goal.returns-in_ok-places-in-Some-clause-target
+returns-in_ok-places-in-Some-clause-target g c =
     let h : IsExchanged c.in-Some.changed c.args.buffer c.args.mods.now c.args.tree.now c.in-Some.paragraph
     (units_of c.args.bridges.now.kept) = (rw c.in-Some.is at c.in_ok-changed.ensures).0 in
     (carried_at c.args.buffers.now c.args.after.now c.args.buffer c.in-Some.changed c.is_silent_at-silent.result
-    c.in_ok-parts-in-Some.parts c.args.mods.now c.index-buffers-buffer.result c.args.tree.now c.in-Some.paragraph
+    c.in_ok-places-in-Some.places c.args.mods.now c.index-buffers-buffer.result c.args.tree.now c.in-Some.paragraph
     c.args.bridges.now.kept c.carry_in_place.new.self.kept c.carry_in_place.new.self.sources
     (c.inside_law.ensures c.args.buffers.now c.in-Some.changed c.args.tree.now c.in-Some.paragraph) c.requires.some
     c.requires.within h c.requires.of_buffers c.requires.after c.requires.changed c.carry_in_place.ensures.carried
     c.carry_in_place.ensures.sources c.carry_in_place.ensures.numbers c.carry_in_place.ensures.units).target
 
-pub returns-in_ok-parts-in-Some-clause-kept : goal.returns-in_ok-parts-in-Some-clause-kept
-returns-in_ok-parts-in-Some-clause-kept g c =
+pub returns-in_ok-places-in-Some-clause-kept : goal.returns-in_ok-places-in-Some-clause-kept
+returns-in_ok-places-in-Some-clause-kept g c =
     let h : IsExchanged c.in-Some.changed c.args.buffer c.args.mods.now c.args.tree.now c.in-Some.paragraph
     (units_of c.args.bridges.now.kept) = (rw c.in-Some.is at c.in_ok-changed.ensures).0 in
     (carried_at c.args.buffers.now c.args.after.now c.args.buffer c.in-Some.changed c.is_silent_at-silent.result
-    c.in_ok-parts-in-Some.parts c.args.mods.now c.index-buffers-buffer.result c.args.tree.now c.in-Some.paragraph
+    c.in_ok-places-in-Some.places c.args.mods.now c.index-buffers-buffer.result c.args.tree.now c.in-Some.paragraph
     c.args.bridges.now.kept c.carry_in_place.new.self.kept c.carry_in_place.new.self.sources
     (c.inside_law.ensures c.args.buffers.now c.in-Some.changed c.args.tree.now c.in-Some.paragraph) c.requires.some
     c.requires.within h c.requires.of_buffers c.requires.after c.requires.changed c.carry_in_place.ensures.carried
     c.carry_in_place.ensures.sources c.carry_in_place.ensures.numbers c.carry_in_place.ensures.units).kept_is
 
-pub returns-in_ok-parts-in-Some-clause-sources : goal.returns-in_ok-parts-in-Some-clause-sources
-returns-in_ok-parts-in-Some-clause-sources g c =
+pub returns-in_ok-places-in-Some-clause-sources : goal.returns-in_ok-places-in-Some-clause-sources
+returns-in_ok-places-in-Some-clause-sources g c =
     let h : IsExchanged c.in-Some.changed c.args.buffer c.args.mods.now c.args.tree.now c.in-Some.paragraph
     (units_of c.args.bridges.now.kept) = (rw c.in-Some.is at c.in_ok-changed.ensures).0 in
     (carried_at c.args.buffers.now c.args.after.now c.args.buffer c.in-Some.changed c.is_silent_at-silent.result
-    c.in_ok-parts-in-Some.parts c.args.mods.now c.index-buffers-buffer.result c.args.tree.now c.in-Some.paragraph
+    c.in_ok-places-in-Some.places c.args.mods.now c.index-buffers-buffer.result c.args.tree.now c.in-Some.paragraph
     c.args.bridges.now.kept c.carry_in_place.new.self.kept c.carry_in_place.new.self.sources
     (c.inside_law.ensures c.args.buffers.now c.in-Some.changed c.args.tree.now c.in-Some.paragraph) c.requires.some
     c.requires.within h c.requires.of_buffers c.requires.after c.requires.changed c.carry_in_place.ensures.carried
     c.carry_in_place.ensures.sources c.carry_in_place.ensures.numbers c.carry_in_place.ensures.units).sources
 
-pub returns-in_ok-parts-in-Some-clause-units : goal.returns-in_ok-parts-in-Some-clause-units
-returns-in_ok-parts-in-Some-clause-units g c =
+pub returns-in_ok-places-in-Some-clause-units : goal.returns-in_ok-places-in-Some-clause-units
+returns-in_ok-places-in-Some-clause-units g c =
     let h : IsExchanged c.in-Some.changed c.args.buffer c.args.mods.now c.args.tree.now c.in-Some.paragraph
     (units_of c.args.bridges.now.kept) = (rw c.in-Some.is at c.in_ok-changed.ensures).0 in
     (carried_at c.args.buffers.now c.args.after.now c.args.buffer c.in-Some.changed c.is_silent_at-silent.result
-    c.in_ok-parts-in-Some.parts c.args.mods.now c.index-buffers-buffer.result c.args.tree.now c.in-Some.paragraph
+    c.in_ok-places-in-Some.places c.args.mods.now c.index-buffers-buffer.result c.args.tree.now c.in-Some.paragraph
     c.args.bridges.now.kept c.carry_in_place.new.self.kept c.carry_in_place.new.self.sources
     (c.inside_law.ensures c.args.buffers.now c.in-Some.changed c.args.tree.now c.in-Some.paragraph) c.requires.some
     c.requires.within h c.requires.of_buffers c.requires.after c.requires.changed c.carry_in_place.ensures.carried
     c.carry_in_place.ensures.sources c.carry_in_place.ensures.numbers c.carry_in_place.ensures.units).units_are
 
-pub returns-in_ok-parts-in-Some-clause-way : goal.returns-in_ok-parts-in-Some-clause-way
-returns-in_ok-parts-in-Some-clause-way g c =
+pub returns-in_ok-places-in-Some-clause-way : goal.returns-in_ok-places-in-Some-clause-way
+returns-in_ok-places-in-Some-clause-way g c =
     let us : List DocUnit = units_of c.args.bridges.now.kept in
     let h : IsExchanged c.in-Some.changed c.args.buffer c.args.mods.now c.args.tree.now c.in-Some.paragraph
     (units_of c.args.bridges.now.kept) = (rw c.in-Some.is at c.in_ok-changed.ensures).0 in (
@@ -184,15 +174,15 @@ returns-in_ok-parts-in-Some-clause-way g c =
           ∙ (rw c.in-Some.is at c.in_ok-changed.ensures).1,
       h.one,
       (carried_at c.args.buffers.now c.args.after.now c.args.buffer c.in-Some.changed c.is_silent_at-silent.result
-          c.in_ok-parts-in-Some.parts c.args.mods.now c.index-buffers-buffer.result c.args.tree.now c.in-Some.paragraph
-          c.args.bridges.now.kept c.carry_in_place.new.self.kept c.carry_in_place.new.self.sources
+          c.in_ok-places-in-Some.places c.args.mods.now c.index-buffers-buffer.result c.args.tree.now
+          c.in-Some.paragraph c.args.bridges.now.kept c.carry_in_place.new.self.kept c.carry_in_place.new.self.sources
           (c.inside_law.ensures c.args.buffers.now c.in-Some.changed c.args.tree.now c.in-Some.paragraph)
           c.requires.some c.requires.within h c.requires.of_buffers c.requires.after c.requires.changed
           c.carry_in_place.ensures.carried c.carry_in_place.ensures.sources
           c.carry_in_place.ensures.numbers c.carry_in_place.ensures.units).same_trees,
       record {
         tree = c.in-Some.paragraph;
-        are = sym (returns-in_ok-parts-in-Some-clause-units g c) ∙ c.carry_in_place.ensures.units;
+        are = sym (returns-in_ok-places-in-Some-clause-units g c) ∙ c.carry_in_place.ensures.units;
         laid =
             subst (λ (t : WideTree). LaidGoes c.in-Some.changed c.args.mods.now t c.in-Some.paragraph us)
             (sym (tree_at c.args.buffers.now c.args.buffer c.index-buffers-buffer.result c.requires.within))
@@ -220,8 +210,8 @@ returns-in_ok-carried_anew-in-None-clause-way g c =
       c.in_ok-carried_anew-in-None.ensures.same_trees,
     )
 
-pub returns-in_ok-parts-in-Some-clause-parts : goal.returns-in_ok-parts-in-Some-clause-parts
-returns-in_ok-parts-in-Some-clause-parts g c =
+pub returns-in_ok-places-in-Some-clause-parts : goal.returns-in_ok-places-in-Some-clause-parts
+returns-in_ok-places-in-Some-clause-parts g c =
     let h : IsExchanged c.in-Some.changed c.args.buffer c.args.mods.now c.args.tree.now c.in-Some.paragraph
     (units_of c.args.bridges.now.kept) = (rw c.in-Some.is at c.in_ok-changed.ensures).0 in
     c.carry_in_place.ensures.parts
@@ -229,7 +219,7 @@ returns-in_ok-parts-in-Some-clause-parts g c =
     (slice_index_or c.args.buffers.now c.args.buffer c.index-buffers-buffer.result).tree
     (units_of c.args.bridges.now.kept) c.args.bridges.now.parts (kept_strays c.args.bridges.now.strays) vs)
     c.carry_in_place.new.self.sources)
-    (sym c.carry_in_place.ensures.units ∙ returns-in_ok-parts-in-Some-clause-units g c)
+    (sym c.carry_in_place.ensures.units ∙ returns-in_ok-places-in-Some-clause-units g c)
     ∙ ap (λ t. CarryParts c.args.bridges.now.parts (PartMoves 0 c.args.mods.now t (units_of c.args.bridges.now.kept)
     c.args.bridges.now.parts (kept_strays c.args.bridges.now.strays) (units c.args.after.now))
     c.carry_in_place.new.self.sources)
@@ -239,8 +229,8 @@ returns-in_ok-parts-in-Some-clause-parts g c =
     (kept_strays c.args.bridges.now.strays) (units c.args.after.now)) c.carry_in_place.new.self.sources)
     (sym h.one.document)
 
-pub returns-in_ok-parts-in-Some-clause-strays : goal.returns-in_ok-parts-in-Some-clause-strays
-returns-in_ok-parts-in-Some-clause-strays g c =
+pub returns-in_ok-places-in-Some-clause-strays : goal.returns-in_ok-places-in-Some-clause-strays
+returns-in_ok-places-in-Some-clause-strays g c =
     let h : IsExchanged c.in-Some.changed c.args.buffer c.args.mods.now c.args.tree.now c.in-Some.paragraph
     (units_of c.args.bridges.now.kept) = (rw c.in-Some.is at c.in_ok-changed.ensures).0 in
     c.carry_in_place.ensures.strays
@@ -248,7 +238,7 @@ returns-in_ok-parts-in-Some-clause-strays g c =
     (slice_index_or c.args.buffers.now c.args.buffer c.index-buffers-buffer.result).tree
     (units_of c.args.bridges.now.kept) c.args.bridges.now.parts (kept_strays c.args.bridges.now.strays) vs)
     (length vs))
-    (sym c.carry_in_place.ensures.units ∙ returns-in_ok-parts-in-Some-clause-units g c)
+    (sym c.carry_in_place.ensures.units ∙ returns-in_ok-places-in-Some-clause-units g c)
     ∙ ap (λ t. CarryStrays (PartMoves 0 c.args.mods.now t (units_of c.args.bridges.now.kept)
     c.args.bridges.now.parts (kept_strays c.args.bridges.now.strays) (units c.args.after.now))
     (length (units c.args.after.now)))
