@@ -9,6 +9,8 @@ ghost use Rattle.tx_exec_form.specs.Words.{is_label};
 ghost use Rattle.tx_exec_form.specs.Evaluated.{WideTrace, evaluated_in};
 ghost use Rattle.tx_exec_form.specs.Laws.{Agrees, Supports, IsPast, ComesFrom};
 
+use crate::{MOST_LEVELS, MOST_TURNS};
+
 /// A trace supports its tree: in every environment that agrees with its looks the tree has this trace, exactly where
 /// cost and height are allowed.
 pub fn trace_laws()
@@ -40,4 +42,10 @@ pub fn origin_law()
 /// `map-args` takes for its two tags just what is a label.
 pub fn label_law()
     ensures { (l : List ℕ) → (is_label l ≡ true) ↔ IsLabel l }
+{}
+
+/// A law: the limits of evaluation, by which contracts and definitions name them, are these numbers.
+pub fn limit_laws()
+    ensures levels { MOST_LEVELS ≡ 400 }
+    ensures turns { MOST_TURNS ≡ 65535 }
 {}

@@ -343,7 +343,7 @@ unwrap_back (node l ts) v i e =
 
 -- ---- all kinds
 
-back_at : (m : Mod) (s v : WideTree) → IsSoundMod m → IsWellFormed s → changed_at m s ≡ Ok v
+pub back_at : (m : Mod) (s v : WideTree) → IsSoundMod m → IsWellFormed s → changed_at m s ≡ Ok v
     → changed_at (inverse_at m s) v ≡ Ok s
 back_at (Assign p x) s v h k e = refl
 back_at (Insert p i x) s v h k e = insert_back s x v i k h e

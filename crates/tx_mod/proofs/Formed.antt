@@ -158,7 +158,7 @@ wrap_formed s (node l ts) v i h k e =
 unwrap_formed : (s v : WideTree) (i : ℕ) → IsWellFormed s → unwrapped s i ≡ Ok v → IsWellFormed v
 unwrap_formed s v i h e = child_formed s v i h (shape_unwrapped s v i e)
 
-formed_at : (m : Mod) (s v : WideTree) → IsSoundMod m → IsWellFormed s → changed_at m s ≡ Ok v → IsWellFormed v
+pub formed_at : (m : Mod) (s v : WideTree) → IsSoundMod m → IsWellFormed s → changed_at m s ≡ Ok v → IsWellFormed v
 formed_at (Assign p x) s v h k e = subst IsWellFormed (same_tree x v e) h
 formed_at (Insert p i x) s v h k e = insert_formed s x v i k h e
 formed_at (Remove p i n) s v h k e = remove_formed s v i n k e
@@ -174,7 +174,7 @@ with_formed : (t v : WideTree) (i : ℕ) → IsWellFormed t → IsWellFormed v �
 with_formed (leaf text) v i h k = h
 with_formed (node l ts) v i h k = (h.0, formed_set (trees ts) i v (all_of ts h.1) k)
 
-replaced_formed : (path : List ℕ) (t s v : WideTree) → subtree t path ≡ Some s → IsWellFormed t → IsWellFormed v
+pub replaced_formed : (path : List ℕ) (t s v : WideTree) → subtree t path ≡ Some s → IsWellFormed t → IsWellFormed v
     → IsWellFormed (replaced t path v)
 replaced_formed [] t s v e h k = k
 replaced_formed (i ∷ path) t s v e h k =

@@ -18,3 +18,4 @@ pub mod Composed
 pub mod Formed
 pub mod Twice
 pub mod InTurn
+pub mod Ordered

@@ -7,3 +7,4 @@ pub mod Sound
 pub mod Ways
 pub mod Followed
 pub mod InTurn
+pub mod Orders

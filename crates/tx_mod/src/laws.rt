@@ -8,6 +8,7 @@ ghost use Rattle.tx_mod.specs.Changes.{changed};
 ghost use Rattle.tx_mod.specs.Followed.{StaysPlace, CarriesSubtree, CarriesThroughAll, Composes};
 ghost use Rattle.tx_mod.specs.Followed.{PathStopsAt, carried_by_all, changed_by_all, outcome_tree};
 ghost use Rattle.tx_mod.specs.Moves.{carried_path, moved_place, place};
+ghost use Rattle.tx_mod.specs.Orders.{KeepsOrder};
 ghost use Rattle.tx_mod.specs.InTurn.{CanBeUndone, changed_in_turn};
 ghost use Rattle.tx_mod.specs.Sound.{IsSoundMod, StaysWellFormed, GivesBack, IsMadeAgain};
 
@@ -74,4 +75,10 @@ pub fn carried_list_law()
     ensures stops { (ms : List Change) (m : Change) (ns : List Change) (t : WideTree) (q : List ℕ)
         → PathStopsAt ms m ns t q }
     ensures same { (ms : List Change) (t : WideTree) (q : List ℕ) → CarriesThroughAll ms t q }
+{}
+
+/// Paths that lead keep the order of the document where a modification carries them, so no two of them are carried to
+/// one path.
+pub fn order_law()
+    ensures { (m : Change) (t : WideTree) (q r : List ℕ) → KeepsOrder m t q r }
 {}

@@ -24,7 +24,7 @@ pub use carrying::carried;
 pub use faults::{ApplyFault, ModFault};
 pub use laws::{
     carried_law, carried_list_law, carried_place_law, inverse_law, list_inverse_law, moved_law,
-    sound, well_formed_law,
+    order_law, sound, well_formed_law,
 };
 pub use list::ModList;
 pub use mods::Mod;

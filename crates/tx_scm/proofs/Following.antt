@@ -148,7 +148,7 @@ texting_spot Other b text opens =
 same_escape : (p : TextPlace) → is_some (text_step p 92) ≡ is_some (text_step p 34)
 unfolding text_step
 same_escape BetweenItems = refl
-same_escape (InSymbol n) = choice (ltb n 48)
+same_escape (InSymbol n) = choice (ltb n 255)
   where
     choice : (c : Bool) → is_some (Rattle.std.proofs.Common.cond c (Some (InSymbol (n + 1))) None) ≡ is_some
         (Rattle.std.proofs.Common.cond c (Some (InSymbol (n + 1))) None)

@@ -25,9 +25,9 @@ use crate::strings::string_text;
 use std::alloc::Global;
 use std::sync::ledger::Ledger;
 use tx_base::{Memory, Steps};
-use tx_labels::LabelCache;
 use tx_tree::{
-    Label, LabelFault, MOST_ARITY, MOST_DEPTH, MOST_LABEL, MOST_SIZE, ReadFault, Tree, TreeFault,
+    Label, LabelCache, LabelFault, MOST_ARITY, MOST_DEPTH, MOST_LABEL, MOST_SIZE, ReadFault, Tree,
+    TreeFault,
 };
 
 // Whether one tree more may stand in the innermost bracket.

@@ -1,7 +1,6 @@
 // Where the reader stands.
 use std::alloc::Global;
-use tx_labels::LabelCache;
-use tx_tree::{Label, Tree};
+use tx_tree::{Label, LabelCache, Tree};
 
 /// An open bracket: its label, and its trees so far.
 #[derive(Drop)]

@@ -7,8 +7,7 @@ ghost use Rattle.tx_tm_form.specs.Parts.{concat_label, document_label};
 use crate::making::make_label;
 use std::alloc::Global;
 use tx_base::Memory;
-use tx_labels::LabelCache;
-use tx_tree::{Label, LabelFault};
+use tx_tree::{Label, LabelCache, LabelFault};
 
 /// The labels of concats and documents, and of the tags that have been read of late. A node's label is taken from
 /// them, so that most nodes share it.

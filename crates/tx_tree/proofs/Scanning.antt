@@ -25,7 +25,7 @@ open_step : text_step Between 60 ≡ Some (InSymbol 0)
 unfolding text_step
 open_step = refl
 
-name_step : (n b : ℕ) → is_name_byte b ≡ true → n < 48 → text_step (InSymbol n) b ≡ Some (InSymbol (n + 1))
+name_step : (n b : ℕ) → is_name_byte b ≡ true → n < 255 → text_step (InSymbol n) b ≡ Some (InSymbol (n + 1))
 unfolding text_step
 name_step n b h lt = grind arith
 
@@ -34,7 +34,7 @@ unfolding text_step
 close_step n h = grind arith
 
 name_run : (name : List ℕ) (n : ℕ) (rest : List ℕ) → AllByRecursion (λ b. is_name_byte b ≡ true) name
-    → n + length name ≤ 48 → 1 ≤ n + length name
+    → n + length name ≤ 255 → 1 ≤ n + length name
     → text_run (Some (InSymbol n)) (name ++ 62 ∷ rest) ≡ text_run (Some Between) rest
 name_run [] n rest h le some = ap (λ p. text_run p rest) (close_step n (omega arith))
 name_run (b ∷ name) n rest h le some =
@@ -99,7 +99,7 @@ pub record IsInSymbol (n : ℕ) (bytes : List ℕ) : Type 0 where
   pub text : IsText before
   pub each : AllByRecursion (λ b. is_name_byte b ≡ true) name
   pub count : length name ≡ n
-  pub short : n ≤ 48
+  pub short : n ≤ 255
   pub are : bytes ≡ before ++ 60 ∷ name
 
 abbrev pub Took : TextPlace → List ℕ → Type 0
@@ -133,24 +133,24 @@ positive (suc m) h = omega arith
 
 -- how one byte is taken in a symbol
 abbrev TakesName : ℕ → ℕ → TextPlace → Type 0
-TakesName n b p = ((b ≡ 62) × (1 ≤ n) × (p ≡ Between)) ⊎ ((is_name_byte b ≡ true) × (n < 48) × (p ≡ InSymbol (n + 1)))
+TakesName n b p = ((b ≡ 62) × (1 ≤ n) × (p ≡ Between)) ⊎ ((is_name_byte b ≡ true) × (n < 255) × (p ≡ InSymbol (n + 1)))
 
 name_cases : (n b : ℕ) (p : TextPlace) → text_step (InSymbol n) b ≡ Some p → TakesName n b p
 unfolding text_step
 name_cases n b p e =
     elim (eqb b 62) as
     (λ c. eqb b 62 ≡ c
-    → cond c (cond (eqb n 0) None (Some Between)) (cond (is_name_byte b && ltb n 48) (Some (InSymbol (n + 1))) None)
+    → cond c (cond (eqb n 0) None (Some Between)) (cond (is_name_byte b && ltb n 255) (Some (InSymbol (n + 1))) None)
     ≡ Some p → TakesName n b p) [
       | true ↦ λ t. elim (eqb n 0) as (λ c. eqb n 0 ≡ c → cond c None (Some Between) ≡ Some p → TakesName n b p) [
         | true ↦ λ u f. absurd cc
         | false ↦ λ u f. inl (eqb-true b 62 t, positive n u, cc)
       ] refl
       | false ↦ λ t.
-          elim (is_name_byte b && ltb n 48) as
-          (λ c. (is_name_byte b && ltb n 48) ≡ c → cond c (Some (InSymbol (n + 1))) None ≡ Some p → TakesName n b p) [
-            | true ↦ λ u f. let parts = and_parts (is_name_byte b) (ltb n 48) u in
-                inr (parts.0, ltb-true n 48 parts.1, cc)
+          elim (is_name_byte b && ltb n 255) as
+          (λ c. (is_name_byte b && ltb n 255) ≡ c → cond c (Some (InSymbol (n + 1))) None ≡ Some p → TakesName n b p) [
+            | true ↦ λ u f. let parts = and_parts (is_name_byte b) (ltb n 255) u in
+                inr (parts.0, ltb-true n 255 parts.1, cc)
             | false ↦ λ u f. absurd cc
           ] refl
     ] refl e
@@ -161,7 +161,7 @@ symbol_took n bytes some h =
     record { each = h.each; some = omega (arith, h.count); short = omega (arith, h.count, h.short) } in
     rw (h.are, append_assoc h.before (60 ∷ h.name) (62 ∷ [])) (text_snoc h.before (symbol h.name) h.text name)
 
-name_took : (n b : ℕ) (bytes : List ℕ) → n < 48 → is_name_byte b ≡ true → IsInSymbol n bytes
+name_took : (n b : ℕ) (bytes : List ℕ) → n < 255 → is_name_byte b ≡ true → IsInSymbol n bytes
     → IsInSymbol (n + 1) (bytes ++ b ∷ [])
 name_took n b bytes lt h t =
     record {
@@ -186,7 +186,7 @@ step_took Between b bytes h (Some q) e =
 step_took (InSymbol n) b bytes h (Some q) e =
     ⊎_elim
     (λ (w : (b ≡ 62) × (1 ≤ n) × (q ≡ Between)). rw (w.0, w.2) (symbol_took n bytes w.1 h))
-    (λ (w : (is_name_byte b ≡ true) × (n < 48) × (q ≡ InSymbol (n + 1))). rw w.2 (name_took n b bytes w.1 w.0 h))
+    (λ (w : (is_name_byte b ≡ true) × (n < 255) × (q ≡ InSymbol (n + 1))). rw w.2 (name_took n b bytes w.1 w.0 h))
     (name_cases n b q e)
 
 run_took : (more bytes : List ℕ) (p : Option TextPlace) → TookAll p bytes → TookAll (text_run p more) (bytes ++ more)

@@ -8,6 +8,7 @@
 mod building;
 mod fault_laws;
 mod faults;
+mod label_cache;
 mod labels;
 mod limits;
 mod path_laws;
@@ -23,6 +24,7 @@ pub use fault_laws::{
     tree_fault_laws,
 };
 pub use faults::{PathFault, PlaceFault, ReadFault, TreeFault, Which};
+pub use label_cache::LabelCache;
 pub use labels::{Label, LabelFault, is_label_byte};
 pub use limits::limit_laws;
 pub use path_laws::path_law;
@@ -38,7 +40,7 @@ pub const MOST_TEXT: usize = 1_048_575;
 /// The most bytes of a label.
 pub const MOST_LABEL: usize = 64;
 /// The most bytes of the name of a symbol.
-pub const MOST_NAME: usize = 48;
+pub const MOST_NAME: usize = 255;
 /// The most children of a node.
 pub const MOST_ARITY: usize = 65_535;
 /// The greatest depth of a tree, where a leaf has depth 1.

@@ -11,7 +11,7 @@ use crate::{
 pub fn limit_laws()
     ensures text { MOST_TEXT ≡ 1048575 }
     ensures label { MOST_LABEL ≡ 64 }
-    ensures name { MOST_NAME ≡ 48 }
+    ensures name { MOST_NAME ≡ 255 }
     ensures arity { MOST_ARITY ≡ 65535 }
     ensures depth { MOST_DEPTH ≡ 400 }
     ensures size { MOST_SIZE ≡ 8000000 }

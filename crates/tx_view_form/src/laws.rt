@@ -18,6 +18,7 @@ ghost use Rattle.tx_view_form.specs.Positions.{IsShort, whole_path, position_in}
 ghost use Rattle.tx_view_form.specs.Stops.{stops_of};
 ghost use Rattle.tx_view_form.specs.Weights.{weight_of};
 
+use crate::{MOST_UNIT_STEPS, MOST_VIEW_STEPS};
 use tx_doc::{Buffer, formed_law};
 use tx_layout::{one_paging, one_shape};
 
@@ -60,3 +61,9 @@ pub fn place_law(buffers: &[Buffer])
 {
     formed_law(buffers);
 }
+
+/// A law: the limits of what a view evaluates, by which contracts and definitions name them, are these numbers.
+pub fn limit_laws()
+    ensures unit { MOST_UNIT_STEPS ≡ 1000000 }
+    ensures view { MOST_VIEW_STEPS ≡ 16000000 }
+{}

@@ -6,7 +6,7 @@
 
 mod laws;
 
-pub use laws::{one_view, place_law, short_law, weight_laws};
+pub use laws::{limit_laws, one_view, place_law, short_law, weight_laws};
 
 /// How many steps the evaluation of one unit may take.
 pub const MOST_UNIT_STEPS: u64 = 1_000_000;

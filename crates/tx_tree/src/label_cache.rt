@@ -1,20 +1,17 @@
-//! A cache of labels, so that nodes that are made one after the other share them.
-//!
-//! The cache is direct-mapped: each label has one slot, which it takes from the label that stood there before. What is
-//! answered is as from `Label::new`, and only the memory that labels take differs.
-#![tactic(auto)]
-
+// A cache of labels, so that nodes that are made one after the other share them. It is direct-mapped: each label has one
+// slot, which it takes from the label that was there before.
 ghost use Rattle.std.specs.Prelude.{◌≡◌, ◌≢◌, ◌<◌, IfOk, IfErr, IfSome, OnOk};
 ghost use Rattle.tx_tree.specs.Labels.{IsLabel, IsLabelFault};
 
+use crate::labels::{Label, LabelFault};
 use std::alloc::Global;
 use tx_base::Memory;
-use tx_tree::{Label, LabelFault};
 
-// How many labels are kept at most.
+// How many labels are cached at most.
 const SLOTS: usize = 64;
 
-/// The labels that were asked for of late, at most one in each slot.
+/// The labels that were asked for of late, at most one in each of 64 slots. What `label` returns is what `Label::new`
+/// returns; only the memory that labels take differs.
 #[derive(Drop)]
 pub struct LabelCache {
     alloc: Global,
@@ -81,7 +78,7 @@ impl LabelCache {
         }
     }
 
-    /// The label of these bytes. Where it is kept it shares its bytes with the one that is; else it is kept now.
+    /// The label of these bytes. Where it is cached it shares its bytes with the cached one; else it is cached now.
     pub fn label(&mut self, bytes: &[u8]) -> Result<Label, LabelFault>
         ensures ok { IfOk result (λ l. l ≡ bytes.now) }
         ensures label { OnOk result (IsLabel bytes.now) }
