@@ -1,0 +1,60 @@
+// The kinds of rows, and the answer to a row of each kind.
+use crate::evaluating::answer_eval;
+use crate::lines::Mark;
+use crate::reading::{answer_judge, answer_read};
+use crate::row::Row;
+use crate::running::answer_run;
+use std::alloc::Global;
+use std::sync::ledger::Ledger;
+use tx_base::Steps;
+use tx_doc::Form;
+
+#[derive(Clone, Copy, PartialEq, Eq)]
+pub(crate) enum Kind {
+    Run,
+    Read(Form),
+    Judge(Form),
+    Eval,
+}
+
+impl Kind {
+    // Whether the kind's rows may have this mark. In a run what is given are lines of a file.
+    pub fn takes(self, mark: Mark, is_in_file: bool) -> bool {
+        match self {
+            Kind::Run => mark != Mark::Given || is_in_file,
+            Kind::Eval => true,
+            Kind::Read(_) | Kind::Judge(_) => mark != Mark::Given,
+        }
+    }
+}
+
+// The kind of rows that a line begins with this word and what follows it.
+pub(crate) fn kind_of(word: &str, rest: &str) -> Option<Kind> {
+    match (word, rest) {
+        ("run", _) => Some(Kind::Run),
+        ("read", "scheme") => Some(Kind::Read(Form::Scheme)),
+        ("read", "tm") => Some(Kind::Read(Form::Tm)),
+        ("judge", "scheme") => Some(Kind::Judge(Form::Scheme)),
+        ("judge", "tm") => Some(Kind::Judge(Form::Tm)),
+        ("eval", "") => Some(Kind::Eval),
+        _ => None,
+    }
+}
+
+// Appends the answer to a row of this kind. None where the row has none, as where its tree can't be read, and where
+// memory runs out.
+pub(crate) fn push_answer<L: Ledger>(
+    alloc: Global,
+    kind: Kind,
+    words: &str,
+    row: &mut Row,
+    out: &mut Vec<u8>,
+    steps: &mut Steps<L>,
+) -> Option<()> {
+    match kind {
+        Kind::Run => answer_run(alloc, words, row, out, steps),
+        Kind::Read(form) => answer_read(alloc, form, &row.asked.bytes, out, steps),
+        Kind::Judge(form) => answer_judge(alloc, form, &row.asked.bytes, out, steps),
+        Kind::Eval => answer_eval(alloc, row, out, steps),
+    }
+}
