@@ -1,5 +1,5 @@
 -- Plain bytes of a string, several at once.
-use Rattle.std.proofs.Common.{◌≡◌, ℕ, zero, suc, ◌+◌, ◌-◌, ◌<◌, ◌≤◌, true, false, List, [], ◌∷◌, ◌++◌, length, get_or}
+use Rattle.std.proofs.Common.{◌≡◌, ℕ, ◌+◌, ◌-◌, ◌<◌, ◌≤◌, true, false, List, [], ◌∷◌, ◌++◌, length, get_or}
 use Rattle.std.proofs.Common.{take, drop, None, refl, sym, ap, subst, ◌∙◌, append_assoc, take_all, arith}
 use Rattle.std.specs.Prelude.{slice_range}
 use Rattle.std.specs.List.{AllByRecursion}
@@ -8,7 +8,6 @@ use Rattle.std.proofs.lemmas.List.{append-nil, drop_more, take-append-drop, leng
 use Rattle.std.proofs.lemmas.List.Elements.{recursion_from_All, All-from_recursion, All-from_get_or, All-take}
 use Rattle.std.proofs.lemmas.List.Elements.{All-get_or}
 use Rattle.std.proofs.lemmas.List.Folds.{drop_split}
-use Rattle.tx_scan.specs.Stops.{is_stop}
 use Rattle.tx_tree.specs.TextScan.{takes_byte, takes_all}
 use Rattle.tx_scm.specs.Machine.{Open, texting, reads, leads}
 use Rattle.tx_scm.specs.Plain.{IsPlain}
@@ -82,33 +81,15 @@ module _ (bytes text new : List ℕ) (at end n : ℕ) (opens : List Open) where
       ∙ ap (λ t. reads (texting t opens) (b ∷ rest)) (sym grown)
       ∙ plain_stops b rest new opens (All-get_or IsPlain run n 0 lt all) refused
 
--- ---- where a run ends
+-- ---- the bytes of a run by their places
 
-abbrev string_stops : List ℕ
-string_stops = 34 ∷ 92 ∷ []
-
-no_such_stop : (b n : ℕ) → b ≡ n → is_stop string_stops n ≡ true → is_stop string_stops b ≡ false → ⊥
-no_such_stop b n e h k = let a : is_stop string_stops b ≡ true = ap (is_stop string_stops) e ∙ h in absurd cc
-
-plain_unless_stop : (set : List ℕ) (b : ℕ) → set ≡ 34 ∷ 92 ∷ [] → is_stop set b ≡ false → IsPlain b
-plain_unless_stop set b e h =
-    let k : is_stop string_stops b ≡ false = ap (λ s. is_stop s b) (sym e) ∙ h in
-    (λ q. no_such_stop b 34 q refl k, λ s. no_such_stop b 92 s refl k)
-
-module _ (bytes set : List ℕ) (at end : ℕ) (is : set ≡ 34 ∷ 92 ∷ []) (first : IsPlain (get_or bytes at 0))
-    (none : (k : ℕ) → at + 1 ≤ k → k < end → is_stop set (get_or bytes k 0) ≡ false) where
-  plain_at : (i : ℕ) → at + i < end → IsPlain (get_or bytes (at + i) 0)
-  plain_at zero lt = subst (λ k. IsPlain (get_or bytes k 0)) (omega arith) first
-  plain_at (suc i) lt =
-      plain_unless_stop set (get_or bytes (at + suc i) 0) is (none (at + suc i) (omega arith) lt)
-
-  -- the first byte is plain, and no stop stands after it
-  pub run_plain : AllByRecursion IsPlain (slice_range bytes at end)
-  run_plain =
-      recursion_from_All IsPlain (slice_range bytes at end)
-      (All-from_get_or IsPlain (slice_range bytes at end) 0
-      (λ i lt.
-      let within : i < end - at = omega (arith, lt, length-take (end - at) (drop at bytes)) in
-      subst IsPlain
-      (sym (get_or-take (end - at) (drop at bytes) i 0 within ∙ get_or-drop at bytes i 0))
-      (plain_at i (omega (arith, within)))))
+pub run_plain : (bytes : List ℕ) (at end : ℕ) → ((k : ℕ) → at ≤ k → k < end → IsPlain (get_or bytes k 0))
+    → AllByRecursion IsPlain (slice_range bytes at end)
+run_plain bytes at end plain =
+    recursion_from_All IsPlain (slice_range bytes at end)
+    (All-from_get_or IsPlain (slice_range bytes at end) 0
+    (λ i lt.
+    let within : i < end - at = omega (arith, lt, length-take (end - at) (drop at bytes)) in
+    subst IsPlain
+    (sym (get_or-take (end - at) (drop at bytes) i 0 within ∙ get_or-drop at bytes i 0))
+    (plain (at + i) (omega arith) (omega (arith, within)))))

@@ -1,7 +1,6 @@
 // The texts of strings.
-ghost use Rattle.std.specs.Prelude.{◌≡◌, ◌≢◌, ◌<◌, ◌≤◌, ◌⊎◌, List, [], length, get_or, slice_range, IfOk};
+ghost use Rattle.std.specs.Prelude.{◌≡◌, ◌≢◌, ◌<◌, ◌≤◌, ◌⊎◌, ℕ, List, [], length, get_or, IfOk};
 ghost use Rattle.std.specs.Bool.{OnTrue, OnFalse};
-ghost use Rattle.std.specs.List.{AllByRecursion};
 ghost use Rattle.tx_tree.specs.WideTree.{leaf};
 ghost use Rattle.tx_scm.specs.Machine.{Open, put_tree, texting};
 ghost use Rattle.tx_scm.specs.Plain.{IsPlain};
@@ -12,18 +11,33 @@ use tx_base::Memory;
 use tx_scan::{Stops, first_stop};
 use tx_tree::{Text, TextBuilder};
 
-// The end of the run of plain bytes that begins at `at`: the next quote, backslash or byte below 32, or the length.
+// Whether the byte stands for itself in a string.
+fn is_plain(byte: u8) -> bool
+    ensures { OnTrue result (IsPlain byte) }
+{
+    byte != b'"' && byte != b'\\'
+}
+
+// The end of the run of plain bytes that begins at `at`. The search stops also at bytes below 32, which are plain.
 fn plain_end(bytes: &[u8], at: usize) -> usize
     requires at { at < length bytes.now }
     requires plain { IsPlain (get_or bytes.now at 0) }
     ensures later { at < result }
     ensures there { result ≤ length bytes.now }
-    ensures plain { AllByRecursion IsPlain (slice_range bytes.now at result) }
+    ensures plain { (k : ℕ) → at ≤ k → k < result → IsPlain (get_or bytes.now k 0) }
 {
     let Some(stops) = Stops::new(b"\"\\") else {
         unreachable!()
     };
-    first_stop(bytes, at + 1, &stops)
+    let mut end = at + 1;
+    while end < bytes.len() && is_plain(bytes[end]) {
+        if bytes[end] < b' ' {
+            end += 1;
+        } else {
+            end = first_stop(bytes, end + 1, &stops);
+        }
+    }
+    end
 }
 
 // Adds the run of plain bytes that begins at `at`, and returns the place after them, or None where no text goes on so.
