@@ -28,7 +28,8 @@ stops l (node m us) ts e = refl
 -- a node names nothing
 pub none_named : (l : List ℕ) (t : WideTree) → text_of t ≡ None → IsNamed l t None
 none_named l (leaf text) e = absurd cc
-none_named l (node m us) e = λ others. stops l (called m (all_without_calls us)) _ (text_of_called m (all_without_calls us))
+none_named l (node m us) e =
+    λ others. stops l (called m (all_without_calls us)) _ (text_of_called m (all_without_calls us))
 
 -- a text names a macro where the tests say so
 pub names : (l text : List ℕ) (t : WideTree) → text_of t ≡ Some text → is_call l ≡ true → is_label text ≡ true

@@ -1,5 +1,6 @@
 // Old documents, in which macros are called by `expand` and `apply`, and their modern form.
-ghost use Rattle.std.specs.Prelude.{◌≡◌, ◌≤◌, ◌+◌, ◌++◌, length, map, codes, IfOk, OnOk, MatchOption, Some, None, IfSome, option_map};
+ghost use Rattle.std.specs.Prelude.{◌≡◌, ◌≤◌, ◌+◌, ◌++◌, map, IfOk, OnOk};
+ghost use Rattle.std.specs.Prelude.{MatchOption, Some, None, IfSome, option_map};
 ghost use Rattle.tx_tree.specs.Labels.{IsLabel, is_label_byte};
 ghost use Rattle.std.specs.List.{list_all};
 ghost use Rattle.tx_tree.specs.Limits.{IsWellFormed, IsWithinLimits};

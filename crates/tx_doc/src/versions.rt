@@ -2,6 +2,8 @@
 ghost use Rattle.std.specs.Prelude.{◌≡◌, ◌≤◌, ◌∷◌, [], ◌+◌, true, length, IfOk, IfSome, ◌<◌, option_map};
 ghost use Rattle.std.specs.List.{slice_split, list_all};
 ghost use Rattle.std.specs.Option.{option_map_or};
+ghost use Rattle.std.specs.Ordering.{is_lt, nat_cmp};
+ghost use Rattle.std.specs.Cmp.Lexicographic.{slice_cmp};
 ghost use Rattle.tx_tree.specs.PathSpelling.{is_digit, number_after};
 ghost use Rattle.tx_doc.specs.Versions.{number_of_digits, is_point, version_of, is_old_version};
 
@@ -74,12 +76,19 @@ fn version_of(alloc: Global, bytes: &[u8]) -> Result<Option<Vec<u32>>, Memory>
     Ok(Some(numbers))
 }
 
+// Whether the numbers are those of a version before 1.0.2.
+fn is_before_modern(numbers: &[u32]) -> bool
+    ensures { result ≡ is_lt (slice_cmp nat_cmp numbers.now (1 ∷ 0 ∷ 2 ∷ [])) }
+{
+    numbers.cmp(MODERN.as_slice()).is_lt()
+}
+
 // Whether the bytes are a version before 1.0.2.
 pub(crate) fn is_old_version(alloc: Global, bytes: &[u8]) -> Result<bool, Memory>
     ensures { IfOk result (λ old. old ≡ is_old_version bytes.now) }
 {
     match version_of(alloc, bytes)? {
-        Some(numbers) => Ok(numbers.as_slice().cmp(MODERN.as_slice()).is_lt()),
+        Some(numbers) => Ok(is_before_modern(numbers.as_slice())),
         None => Ok(false),
     }
 }
