@@ -27,8 +27,8 @@ const TEXTS: &[Long<'static, TextFault>] = &[
     (b"<>", 0, b"", Some(TextFault::BadSymbol(1))),
     (b"<a b>", 0, b"", Some(TextFault::BadSymbol(2))),
     (b"<a\x7f>", 0, b"", Some(TextFault::BadSymbol(2))),
-    (b"<", 48, b">", None),
-    (b"<", 49, b">", Some(TextFault::BadSymbol(49))),
+    (b"<", 255, b">", None),
+    (b"<", 256, b">", Some(TextFault::BadSymbol(256))),
     (b"", 1_048_575, b"", None),
     (b"", 1_048_576, b"", Some(TextFault::TooLong(1_048_576))),
 ];
