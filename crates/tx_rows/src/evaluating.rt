@@ -182,3 +182,19 @@ pub(crate) fn answer_eval<L: Ledger>(
         }
     }
 }
+
+// Appends the value of the row's tree alone; or `over` where the evaluation runs out of steps or levels.
+pub(crate) fn answer_value<L: Ledger>(
+    alloc: Global,
+    row: &Row,
+    out: &mut Vec<u8>,
+    steps: &mut Steps<L>,
+) -> Option<()> {
+    match outcome(alloc, row, ALLOWANCE, steps)? {
+        Outcome::Over => push_text("over\n", out),
+        Outcome::Done(trace) => {
+            push_plain(alloc, &trace.value, out, steps)?;
+            push_text("\n", out)
+        }
+    }
+}

@@ -1,9 +1,13 @@
 // The kinds of rows, and the answer to a row of each kind.
-use crate::evaluating::answer_eval;
+use crate::applying::answer_apply;
+use crate::clustering::answer_clusters;
+use crate::evaluating::{answer_eval, answer_value};
 use crate::lines::Mark;
+use crate::opening::answer_words;
 use crate::reading::{answer_judge, answer_read};
 use crate::row::Row;
 use crate::running::answer_run;
+use crate::writing::answer_write;
 use std::alloc::Global;
 use std::sync::ledger::Ledger;
 use tx_base::Steps;
@@ -14,7 +18,12 @@ pub(crate) enum Kind {
     Run,
     Read(Form),
     Judge(Form),
+    Write,
     Eval,
+    Value,
+    Apply,
+    Clusters,
+    Words,
 }
 
 impl Kind {
@@ -22,8 +31,8 @@ impl Kind {
     pub fn takes(self, mark: Mark, is_in_file: bool) -> bool {
         match self {
             Kind::Run => mark != Mark::Given || is_in_file,
-            Kind::Eval => true,
-            Kind::Read(_) | Kind::Judge(_) => mark != Mark::Given,
+            Kind::Eval | Kind::Value | Kind::Apply => true,
+            _ => mark != Mark::Given,
         }
     }
 }
@@ -36,7 +45,12 @@ pub(crate) fn kind_of(word: &str, rest: &str) -> Option<Kind> {
         ("read", "tm") => Some(Kind::Read(Form::Tm)),
         ("judge", "scheme") => Some(Kind::Judge(Form::Scheme)),
         ("judge", "tm") => Some(Kind::Judge(Form::Tm)),
+        ("write", "tm") => Some(Kind::Write),
         ("eval", "") => Some(Kind::Eval),
+        ("value", "") => Some(Kind::Value),
+        ("apply", "") => Some(Kind::Apply),
+        ("clusters", "") => Some(Kind::Clusters),
+        ("words", "") => Some(Kind::Words),
         _ => None,
     }
 }
@@ -55,6 +69,11 @@ pub(crate) fn push_answer<L: Ledger>(
         Kind::Run => answer_run(alloc, words, row, out, steps),
         Kind::Read(form) => answer_read(alloc, form, &row.asked.bytes, out, steps),
         Kind::Judge(form) => answer_judge(alloc, form, &row.asked.bytes, out, steps),
+        Kind::Write => answer_write(alloc, &row.asked.bytes, out, steps),
         Kind::Eval => answer_eval(alloc, row, out, steps),
+        Kind::Value => answer_value(alloc, row, out, steps),
+        Kind::Apply => answer_apply(alloc, row, out, steps),
+        Kind::Clusters => answer_clusters(alloc, &row.asked.bytes, out, steps),
+        Kind::Words => answer_words(alloc, &row.asked.bytes, out),
     }
 }

@@ -3,15 +3,19 @@
 //! README.md says how a row is written.
 #![tactic(auto)]
 
+mod applying;
+mod clustering;
 mod escapes;
 mod evaluating;
 mod kinds;
 mod lines;
+mod opening;
 mod reading;
 mod report;
 mod row;
 mod running;
 mod table;
+mod writing;
 
 ghost use Rattle.std.specs.Prelude.{◌≡◌, []};
 

@@ -156,8 +156,9 @@ impl<'a> Table<'a> {
             return self.take_name(alloc, number, head);
         }
         self.end_row(alloc, report, steps)?;
-        self.kind = Some(kind_of(head.0, head.1)?);
         self.words = head.1;
+        self.kind = kind_of(head.0, head.1);
+        self.kind?;
         Some(())
     }
 
