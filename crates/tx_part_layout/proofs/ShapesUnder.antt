@@ -173,27 +173,25 @@ module _ (base : List ℕ) where
   gap_under zero = refl
   gap_under (suc n) = refl
 
+  spread_pick : (b : Bool) (each more : ℕ) (x : Item) (xs : List Item) →
+      spread_by each more (items_under xs) ≡ items_under (spread_by each more xs) →
+      spread_by each (more - 1) (items_under xs) ≡ items_under (spread_by each (more - 1) xs) →
+      cond b (item_under base x ∷ (gap_of (each + min more 1) ++ spread_by each (more - 1) (items_under xs)))
+      (item_under base x ∷ spread_by each more (items_under xs))
+      ≡ items_under (cond b (x ∷ (gap_of (each + min more 1) ++ spread_by each (more - 1) xs)) (x ∷ spread_by each more xs))
+  spread_pick true each more x xs h k =
+      ap (λ l. item_under base x ∷ l)
+      (ap₂ (λ g l. g ++ l) (sym (gap_under (each + min more 1))) k
+      ∙ sym (map-append (item_under base) (gap_of (each + min more 1)) (spread_by each (more - 1) xs)))
+  spread_pick false each more x xs h k = ap (λ l. item_under base x ∷ l) h
+
   spread_by_under : (each more : ℕ) (items : List Item) →
       spread_by each more (items_under items) ≡ items_under (spread_by each more items)
   spread_by_under each more [] = refl
   spread_by_under each more (x ∷ xs) =
-      ap (λ c. cond c (y ∷ (gap ++ spread_by each (more - 1) (items_under xs))) (y ∷ spread_by each more (items_under xs)))
-      (same_blank x) ∙ by (is_blank_item x)
-    where
-      y : Item
-      y = item_under base x
-
-      gap : List Item
-      gap = gap_of (each + min more 1)
-
-      by : (b : Bool) →
-          cond b (y ∷ (gap ++ spread_by each (more - 1) (items_under xs))) (y ∷ spread_by each more (items_under xs))
-          ≡ items_under (cond b (x ∷ (gap ++ spread_by each (more - 1) xs)) (x ∷ spread_by each more xs))
-      by true =
-          ap (λ l. y ∷ l)
-          (ap₂ (λ k l. k ++ l) (sym (gap_under (each + min more 1))) (spread_by_under each (more - 1) xs)
-          ∙ sym (map-append (item_under base) gap (spread_by each (more - 1) xs)))
-      by false = ap (λ l. y ∷ l) (spread_by_under each more xs)
+      ap (λ c. cond c (item_under base x ∷ (gap_of (each + min more 1) ++ spread_by each (more - 1) (items_under xs)))
+      (item_under base x ∷ spread_by each more (items_under xs))) (same_blank x)
+      ∙ spread_pick (is_blank_item x) each more x xs (spread_by_under each more xs) (spread_by_under each (more - 1) xs)
 
   spaces_under : (items : List Item) → spaces_among (items_under items) ≡ spaces_among items
   spaces_under [] = refl

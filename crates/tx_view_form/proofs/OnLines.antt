@@ -39,18 +39,19 @@ module _ (P : Item → Type 0) (of_gap : (n : ℕ) → P (Gap n)) where
   gap_holds zero = All-nil P
   gap_holds (suc n) = All-cons P (Gap (suc n)) [] (of_gap (suc n)) (All-nil P)
 
+  spread_pick : (b : Bool) (each more : ℕ) (x : Item) (xs : List Item) → P x → All P (spread_by each more xs)
+      → All P (spread_by each (more - 1) xs)
+      → All P (cond b (x ∷ (gap_of (each + min more 1) ++ spread_by each (more - 1) xs)) (x ∷ spread_by each more xs))
+  spread_pick true each more x xs h k l =
+      All-cons P x (gap_of (each + min more 1) ++ spread_by each (more - 1) xs) h
+      (All-append P (gap_of (each + min more 1)) (spread_by each (more - 1) xs) (gap_holds (each + min more 1)) l)
+  spread_pick false each more x xs h k l = All-cons P x (spread_by each more xs) h k
+
   spread_by_holds : (each more : ℕ) (items : List Item) → All P items → All P (spread_by each more items)
   spread_by_holds each more [] h = h
-  spread_by_holds each more (x ∷ xs) h = pick (is_blank_item x)
-    where
-      pick : (b : Bool)
-          → All P (cond b (x ∷ (gap_of (each + min more 1) ++ spread_by each (more - 1) xs)) (x ∷ spread_by each more xs))
-      pick true =
-          All-cons P x (gap_of (each + min more 1) ++ spread_by each (more - 1) xs) (All-head P x xs h)
-          (All-append P (gap_of (each + min more 1)) (spread_by each (more - 1) xs) (gap_holds (each + min more 1))
-          (spread_by_holds each (more - 1) xs (All-tail P x xs h)))
-      pick false =
-          All-cons P x (spread_by each more xs) (All-head P x xs h) (spread_by_holds each more xs (All-tail P x xs h))
+  spread_by_holds each more (x ∷ xs) h =
+      spread_pick (is_blank_item x) each more x xs (All-head P x xs h)
+      (spread_by_holds each more xs (All-tail P x xs h)) (spread_by_holds each (more - 1) xs (All-tail P x xs h))
 
   spread_holds : (free : ℕ) (items : List Item) → All P items → All P (spread free items)
   spread_holds zero items h = h
