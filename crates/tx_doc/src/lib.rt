@@ -9,7 +9,10 @@
 mod bodies;
 mod buffer;
 mod forms;
+mod older;
+mod versions;
 
 pub use bodies::{body, is_labelled};
 pub use buffer::{Buffer, Name, formed_law, number_of, share_buffers};
 pub use forms::{Form, form_of};
+pub use older::{modern, modern_law};

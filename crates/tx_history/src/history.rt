@@ -1,7 +1,7 @@
 // Two rings of entries.
-ghost use Rattle.std.specs.Prelude.{◌≡◌, ◌+◌, ◌<◌, ◌≤◌, ◌++◌, ◌∷◌, [], length};
+ghost use Rattle.std.specs.Prelude.{◌≡◌, ◌↔◌, ◌⊎◌, ◌+◌, ◌<◌, ◌≤◌, ◌++◌, ◌∷◌, [], length, None};
 ghost use Rattle.std.specs.Prelude.{if◌then◌else◌, IfOk, IfErr, option_copied};
-ghost use Rattle.tx_history.specs.Lists.{newest, last};
+ghost use Rattle.tx_history.specs.Lists.{newest, last, kth_newest};
 
 use circular_buffer::HeapCircularBuffer;
 use std::alloc::Global;
@@ -101,6 +101,19 @@ impl<E: Drop> History<E> {
         ensures { option_copied result ≡ last self.now.future }
     {
         self.future.back()
+    }
+
+    /// The `k`-th newest entry of the past, the newest being 1. None comes exactly where `k` is 0, or greater than the
+    /// number of entries of the past.
+    #[tactic(auto, using(crate::proofs::Newest::none_newest, crate::proofs::Newest::kth_is))]
+    pub fn past(&self, k: u32) -> Option<&E>
+        ensures entry { option_copied result ≡ kth_newest k self.now.past }
+        ensures none { (result ≡ None) ↔ ((k ≡ 0) ⊎ (length self.now.past < k)) }
+    {
+        if k == 0 {
+            return None;
+        }
+        self.past.nth_back(k as usize - 1)
     }
 
     /// Puts the entry of an edit that was undone behind the future. Both lists together have fewer entries than the

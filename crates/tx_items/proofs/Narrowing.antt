@@ -11,11 +11,12 @@ use Rattle.tx_text.specs.Clusters.{items_of, clusters_of}
 use Rattle.tx_text.proofs.Spreading.{narrow}
 use Rattle.tx_items.specs.declared.attributes.Attrs.{Attrs}
 use Rattle.tx_items.specs.declared.drawing.Item.{Item}
-use Rattle.tx_items.specs.declared.drawing.Item.TheVariants.{Glyph, Space, Gap, Break, PageEnd, Down}
+use Rattle.tx_items.specs.declared.drawing.Drawn.{Drawn}
+use Rattle.tx_items.specs.declared.drawing.Item.TheVariants.{Glyph, Space, Chance, Gap, Break, PageEnd, Down}
 use Rattle.tx_items.specs.declared.drawing.Paragraph.{Paragraph}
 use Rattle.tx_items.specs.Looks.{WideLook}
 use Rattle.tx_items.specs.Attributes.{with_named, attribute_in}
-use Rattle.tx_items.specs.Drawing.{is_space, look_of, item_of, drawn, paragraph}
+use Rattle.tx_items.specs.Drawing.{is_space, is_chance, look_of, item_of, drawn, paragraph}
 use Rattle.tx_items.specs.Rules.{Rule, rule_of}
 use Rattle.tx_items.specs.Rules as rules
 use Rattle.tx_items.specs.Shows.{ItemRun, empty, begun, run_of, beside, whole_run, run_ended, Form, inline, listed}
@@ -96,12 +97,15 @@ joined_narrow fs h = pick (all_inline fs)
 -- ---- texts
 
 item_narrow : (look : WideLook) (c : Cluster) → c.cells ≤ 2 → IsNarrow (item_of look c)
-item_narrow look c h = pick (is_space c.glyphs)
+item_narrow look c h = pick (is_space c.glyphs) (is_chance c.glyphs)
   where
-    pick : (b : Bool)
-        → IsNarrow (cond b (Space (record { cluster = c; look = look })) (Glyph (record { cluster = c; look = look })))
-    pick true = h
-    pick false = h
+    d : Drawn
+    d = record { cluster = c; look = look }
+
+    pick : (b e : Bool) → IsNarrow (cond b (Space d) (cond e (Chance d) (Glyph d)))
+    pick true e = h
+    pick false true = h
+    pick false false = h
 
 drawn_narrow : (a : Attrs) (at : Option (List ℕ)) (words : List ℕ) → All IsNarrow (drawn a at words)
 drawn_narrow a at words =

@@ -4,7 +4,7 @@ ghost use Rattle.std.specs.Option.{option_copied};
 ghost use Rattle.tx_tree.specs.declared.TheConstants.{MOST_TEXT};
 ghost use Rattle.tx_text.specs.Clusters.{items_of, clusters_of};
 ghost use Rattle.tx_text.specs.Places.{plain_cluster, plain_clusters};
-ghost use Rattle.tx_items.specs.Drawing.{look_of, item_of, is_space, paragraph};
+ghost use Rattle.tx_items.specs.Drawing.{look_of, item_of, is_space, is_chance, paragraph};
 
 use crate::attributes::Attrs;
 use std::alloc::Global;
@@ -53,10 +53,12 @@ pub struct Drawn {
 /// What stands in a paragraph.
 #[derive(Drop)]
 pub enum Item {
-    /// A cluster that is no space.
+    /// A cluster that is neither a space nor a chance.
     Glyph(Drawn),
     /// A cluster that shows as one space.
     Space(Drawn),
+    /// A cluster that shows as a zero-width space (U+200B) alone. It takes no cell, and a line may end behind it.
+    Chance(Drawn),
     /// So many free cells, at most 500, which are part of a word.
     Gap(u32),
     /// The line ends here.
@@ -163,6 +165,23 @@ impl Look {
     }
 }
 
+impl Item {
+    /// The same item.
+    pub fn copy(&self) -> Result<Item, Memory>
+        ensures { IfOk result (λ i. i ≡ self.now) }
+    {
+        match self {
+            Item::Glyph(drawn) => Ok(Item::Glyph(drawn.copy()?)),
+            Item::Space(drawn) => Ok(Item::Space(drawn.copy()?)),
+            Item::Chance(drawn) => Ok(Item::Chance(drawn.copy()?)),
+            Item::Gap(cells) => Ok(Item::Gap(*cells)),
+            Item::Break => Ok(Item::Break),
+            Item::PageEnd => Ok(Item::PageEnd),
+            Item::Down(count) => Ok(Item::Down(*count)),
+        }
+    }
+}
+
 impl Drawn {
     /// The same cluster with the same look.
     pub fn copy(&self) -> Result<Drawn, Memory>
@@ -259,6 +278,8 @@ fn item_of(cluster: &Cluster, look: &Look) -> Result<Item, Memory>
     };
     if is_space(cluster) {
         Ok(Item::Space(drawn))
+    } else if is_chance(cluster) {
+        Ok(Item::Chance(drawn))
     } else {
         Ok(Item::Glyph(drawn))
     }
@@ -269,6 +290,13 @@ fn is_space(cluster: &Cluster) -> bool
     ensures { result ≡ is_space cluster.now.glyphs }
 {
     cluster.glyphs.bytes() == b" ".as_slice()
+}
+
+// Whether the cluster shows as a zero-width space.
+fn is_chance(cluster: &Cluster) -> bool
+    ensures { result ≡ is_chance cluster.now.glyphs }
+{
+    cluster.glyphs.bytes() == b"\xe2\x80\x8b".as_slice()
 }
 
 // Adds clusters that look alike.

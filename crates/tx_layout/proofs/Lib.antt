@@ -1,5 +1,6 @@
 mod Slices
 pub mod Spans
+pub mod Spreading
 mod Widths
 mod Marks
 mod Once

@@ -10,21 +10,24 @@ use Rattle.tx_lines.specs.declared.cut.Cut.{Cut}
 use Rattle.tx_lines.specs.Cuts.{Partitions}
 use Rattle.tx_lines.proofs.Places.{forward}
 use Rattle.tx_items.specs.declared.drawing.Item.{Item}
-use Rattle.tx_items.specs.declared.drawing.Item.TheVariants.{Glyph, Space, Gap, Break, PageEnd, Down}
+use Rattle.tx_items.specs.declared.drawing.Item.TheVariants.{Glyph, Space, Chance, Gap, Break, PageEnd, Down}
 use Rattle.tx_items.specs.declared.drawing.Paragraph.{Paragraph}
+use Rattle.tx_layout.specs.declared.measures.Side.{Side}
+use Rattle.tx_layout.specs.declared.measures.Side.TheVariants.{Left, Center, Right, Justify}
 use Rattle.tx_layout.specs.declared.measures.Frame.{Frame}
 use Rattle.tx_layout.specs.declared.pieces.Span.{Span}
 use Rattle.tx_layout.specs.declared.segments.Row.{Row}
 use Rattle.tx_layout.specs.declared.layout.Line.{Line}
-use Rattle.tx_layout.specs.Frames.{least_width, line_frame}
+use Rattle.tx_layout.specs.Frames.{least_width, line_frame, IsFrame}
 use Rattle.tx_layout.specs.Words.{cells_across, capped_item}
-use Rattle.tx_layout.specs.Segments.{shift, piece_of, width_at, indent_at, no_span, line_of, lines_of}
+use Rattle.tx_layout.specs.Segments.{shift, put_in, piece_of, width_at, indent_at, no_span, are_none, line_of, lines_of}
+use Rattle.tx_layout.specs.Spread.{spread}
 use Rattle.tx_layout.specs.Shapes.{is_break, Cutting, Whole, empty_line, page_ending, with_last, behind_cut}
 use Rattle.tx_layout.specs.Shapes.{or_empty, HasLines, last_segment, then_cut, items_shown, IsShape}
 use Rattle.tx_layout.specs.Rows.{line_at, empty_row, row_ending, rows_behind, rows_or_empty, IsWithin, row_at, rows_at}
 use Rattle.tx_layout.specs.Rows.{Rises, AreRows, OwnLines}
 use Rattle.tx_layout.proofs.Slices.{slice_slice, at_slice}
-use Rattle.tx_layout.proofs.Spans.{rises}
+use Rattle.tx_layout.proofs.Spans.{rises, is_width}
 
 -- ---- the last of some rows, marked
 
@@ -56,6 +59,7 @@ behind_map : (items : List Item) (cut : Item) (xs : List Row)
     → map (line_at items) (rows_behind cut xs) ≡ behind_cut cut (map (line_at items) xs)
 behind_map items (Glyph d) xs = refl
 behind_map items (Space d) xs = refl
+behind_map items (Chance d) xs = refl
 behind_map items (Gap n) xs = refl
 behind_map items Break xs = refl
 behind_map items PageEnd xs = last_map items xs
@@ -75,11 +79,11 @@ long : (items : List Item) (start end : ℕ) → start ≤ end → end ≤ lengt
 long items start end on within =
     length-take-le (end - start) (drop start items) (omega (arith, length-drop start items))
 
-one_line : (frame : Frame) (b : Bool) (items : List Item) (start end : ℕ) (spans : List Span) (cut : Cut) → start ≤ end
+one_line : (frame : Frame) (b e : Bool) (items : List Item) (start end : ℕ) (spans : List Span) (cut : Cut) → start ≤ end
     → end ≤ length items → Rises (slice_range items start end) spans → cut.from < cut.to → cut.to ≤ length spans
-    → line_at items (row_at frame b start (slice_range items start end) spans cut)
-    ≡ line_of frame b (slice_range items start end) spans cut
-one_line frame b items start end spans cut on within rise some there =
+    → line_at items (row_at frame b e start (slice_range items start end) spans cut)
+    ≡ line_of frame b e (slice_range items start end) spans cut
+one_line frame b e items start end spans cut on within rise some there =
     let segment : List Item = slice_range items start end in
     let from : ℕ = (get_or spans cut.from no_span).from in
     let to : ℕ = (get_or spans (cut.to - 1) no_span).to in
@@ -87,9 +91,10 @@ one_line frame b items start end spans cut on within rise some there =
     let le : from ≤ to = placed.0 in
     let inside : to ≤ length segment = placed.1 in
     let size : length segment ≡ end - start = long items start end on within in
+    let free : ℕ = width_at frame b - cells_across (slice_range segment from to) in
     let line : List Item → Line = λ is. record {
-      indent = indent_at frame b + shift frame.side (width_at frame b - cells_across (slice_range segment from to));
-      items = is;
+      indent = indent_at frame b + shift frame.side free;
+      items = spread (put_in frame.side e free) is;
       page_end = false;
     } in
     ap line (sym (slice_slice items start end from to le (omega arith)))
@@ -104,15 +109,23 @@ words_map frame b items start end spans (cut ∷ cuts) at on within rise h =
     let begins = h.0 in
     let some = h.1 in
     ap₂ (λ l ls. l ∷ ls)
-    (one_line frame b items start end spans cut on within rise (omega arith) (forward cuts cut.to (length spans) h.2))
+    (one_line frame b (are_none cuts) items start end spans cut on within rise (omega arith) (forward cuts cut.to (length spans) h.2))
     (words_map frame false items start end spans cuts cut.to on within rise h.2)
 
-words_within : (frame : Frame) (b : Bool) (items : List Item) (start end : ℕ) (spans : List Span) (cuts : List Cut)
+-- no more cells are put in than the line has
+put_most : (side : Side) (e : Bool) (free : ℕ) → put_in side e free ≤ free
+put_most Left e free = omega arith
+put_most Center e free = omega arith
+put_most Right e free = omega arith
+put_most Justify true free = omega arith
+put_most Justify false free = omega arith
+
+words_within : (frame : Frame) → IsFrame frame → (b : Bool) (items : List Item) (start end : ℕ) (spans : List Span) (cuts : List Cut)
     (at : ℕ) → start ≤ end → end ≤ length items → Rises (slice_range items start end) spans
     → Partitions cuts at (length spans)
     → All (IsWithin (length items)) (rows_at frame b start (slice_range items start end) spans cuts)
-words_within frame b items start end spans [] at on within rise h = All-nil (IsWithin (length items))
-words_within frame b items start end spans (cut ∷ cuts) at on within rise h =
+words_within frame f b items start end spans [] at on within rise h = All-nil (IsWithin (length items))
+words_within frame f b items start end spans (cut ∷ cuts) at on within rise h =
     let segment : List Item = slice_range items start end in
     let begins = h.0 in
     let some = h.1 in
@@ -121,9 +134,13 @@ words_within frame b items start end spans (cut ∷ cuts) at on within rise h =
     let le : (get_or spans cut.from no_span).from ≤ (get_or spans (cut.to - 1) no_span).to = placed.0 in
     let inside : (get_or spans (cut.to - 1) no_span).to ≤ length segment = placed.1 in
     let size : length segment ≡ end - start = long items start end on within in
-    All-cons (IsWithin (length items)) (row_at frame b start segment spans cut)
-    (rows_at frame false start segment spans cuts) (omega arith, omega arith)
-    (words_within frame false items start end spans cuts cut.to on within rise h.2)
+    let line : List Item =
+    slice_range segment (get_or spans cut.from no_span).from (get_or spans (cut.to - 1) no_span).to in
+    let put = put_most frame.side (are_none cuts) (width_at frame b - cells_across line) in
+    let wide = (is_width frame b f).1 in
+    All-cons (IsWithin (length items)) (row_at frame b (are_none cuts) start segment spans cut)
+    (rows_at frame false start segment spans cuts) (omega arith, omega arith, omega arith)
+    (words_within frame f false items start end spans cuts cut.to on within rise h.2)
 
 in_order : (frame : Frame) (b : Bool) (start : ℕ) (segment : List Item) (rows : List Row)
     (h : AreRows frame b start segment rows) → Partitions h.cuts 0 (length h.spans)
@@ -150,7 +167,7 @@ own_lines frame b last items start end rows rows' on within h e =
     }
 
 alone : (len : ℕ) → All (IsWithin len) (empty_row ∷ [])
-alone len = All-cons (IsWithin len) empty_row [] (omega arith, omega arith) (All-nil (IsWithin len))
+alone len = All-cons (IsWithin len) empty_row [] (omega arith, omega arith, omega arith) (All-nil (IsWithin len))
 
 single_within : (len : ℕ) (a b : Bool) (xs : List Row) → All (IsWithin len) xs
     → All (IsWithin len) (rows_or_empty a b xs)
@@ -160,19 +177,19 @@ single_within len false true [] h = All-nil (IsWithin len)
 single_within len false false [] h = alone len
 single_within len a b (x ∷ xs) h = h
 
-pub own_within : (frame : Frame) (b last : Bool) (items : List Item) (start end : ℕ) (rows rows' : List Row)
+pub own_within : (frame : Frame) → IsFrame frame → (b last : Bool) (items : List Item) (start end : ℕ) (rows rows' : List Row)
     → start ≤ end
     → end ≤ length items → (h : AreRows frame b start (slice_range items start end) rows)
     → rows' ≡ rows_or_empty b last rows
     → All (IsWithin (length items)) rows'
-own_within frame b last items start end rows rows' on within h e =
+own_within frame f b last items start end rows rows' on within h e =
     let segment : List Item = slice_range items start end in
     let rise = rises (least_width frame) segment h.spans h.spelled in
     let order = in_order frame b start segment rows h in
     let P : List Row → Type 0 = λ rs. All (IsWithin (length items)) rs in
     subst P (sym e)
     (single_within (length items) b last rows
-    (subst P (sym h.made) (words_within frame b items start end h.spans h.cuts 0 on within rise order)))
+    (subst P (sym h.made) (words_within frame f b items start end h.spans h.cuts 0 on within rise order)))
 
 last_within : (len : ℕ) (xs : List Row) → All (IsWithin len) xs → All (IsWithin len) (with_last row_ending xs)
 last_within len [] h = h
@@ -185,11 +202,13 @@ last_within len (x ∷ (y ∷ ys)) h =
 empties_within : (len n : ℕ) → All (IsWithin len) (replicate n empty_row)
 empties_within len zero = All-nil (IsWithin len)
 empties_within len (suc n) =
-    All-cons (IsWithin len) empty_row (replicate n empty_row) (omega arith, omega arith) (empties_within len n)
+    All-cons (IsWithin len) empty_row (replicate n empty_row) (omega arith, omega arith, omega arith)
+    (empties_within len n)
 
 behind_within : (len : ℕ) (cut : Item) (xs : List Row) → All (IsWithin len) xs → All (IsWithin len) (rows_behind cut xs)
 behind_within len (Glyph d) xs h = h
 behind_within len (Space d) xs h = h
+behind_within len (Chance d) xs h = h
 behind_within len (Gap n) xs h = h
 behind_within len Break xs h = h
 behind_within len PageEnd xs h = last_within len xs h

@@ -1,5 +1,5 @@
 -- A paragraph has one list of lines.
-use Rattle.std.proofs.Common.{◌≡◌, ℕ, ◌+◌, ◌≤◌, inl, inr, List, [], ◌∷◌, ◌++◌, map}
+use Rattle.std.proofs.Common.{◌≡◌, ℕ, ◌+◌, ◌-◌, ◌≤◌, inl, inr, List, [], ◌∷◌, ◌++◌, map}
 use Rattle.std.proofs.Common.{drop, get_or, refl, sym, ap, ap₂, ◌∙◌, subst, arith, Bool, true, false}
 use Rattle.std.specs.Prelude.{slice_range, All}
 use Rattle.std.proofs.lemmas.Bool.{cases_lt}
@@ -12,10 +12,13 @@ use Rattle.tx_layout.specs.declared.measures.Frame.{Frame}
 use Rattle.tx_layout.specs.declared.pieces.Span.{Span}
 use Rattle.tx_layout.specs.declared.layout.Line.{Line}
 use Rattle.tx_layout.specs.Frames.{least_width}
-use Rattle.tx_layout.specs.Words.{cells_across, Solid, Blank, IsSpan, SpansFrom}
+use Rattle.tx_layout.specs.Words.{cells_across, Solid, Blank, Breakable, Unbreakable, IsSpan, SpansFrom}
 use Rattle.tx_layout.specs.Segments.{piece_of, width_at, lines_of, HasWords}
 use Rattle.tx_layout.specs.Shapes.{Whole, is_break, behind_cut, or_empty, HasLines, last_segment, then_cut}
 use Rattle.tx_layout.proofs.Slices.{at_slice, at_drop, cells_le}
+
+no_chance : (i : Item) → Breakable i → Unbreakable i → ⊥
+no_chance i a b = let e : true ≡ false = sym a ∙ b in cc
 
 no_both : (i : Item) → Blank i → Solid i → ⊥
 no_both i a b = let e : true ≡ false = sym a ∙ b in cc
@@ -49,14 +52,25 @@ no_shorter least items x y e p q =
                 let solid : Solid (get_or items x.to Break) =
                 at_slice Solid items y.from y.to x.to Break q.solid (omega arith) less w in
                 absurd (no_both (get_or items x.to Break) blank solid)
-            | inr wide ↦
-                let more : cells_across (slice_range items x.from (x.to + 1))
-                ≤ cells_across (slice_range items x.from y.to) =
-                cells_le items x.from (x.to + 1) y.to (omega arith) in
-                let same : cells_across (slice_range items x.from y.to) ≡ cells_across (slice_range items y.from y.to) =
-                ap (λ i. cells_across (slice_range items i y.to)) e in
-                let fits = q.narrow in
-                absurd (omega arith)
+            | inr other ↦ elim other [
+              | inl loose ↦
+                  let there : Breakable (get_or items (x.to - 1) Break) =
+                  at_slice Breakable items (x.to - 1) x.to (x.to - 1) Break loose (omega arith) (omega arith)
+                  (omega arith) in
+                  let whole : Unbreakable (get_or items (x.to - 1) Break) =
+                  at_slice Unbreakable items y.from (y.to - 1) (x.to - 1) Break q.unbroken (omega arith) (omega arith)
+                  (omega arith) in
+                  absurd (no_chance (get_or items (x.to - 1) Break) there whole)
+              | inr wide ↦
+                  let more : cells_across (slice_range items x.from (x.to + 1))
+                  ≤ cells_across (slice_range items x.from y.to) =
+                  cells_le items x.from (x.to + 1) y.to (omega arith) in
+                  let same : cells_across (slice_range items x.from y.to)
+                  ≡ cells_across (slice_range items y.from y.to) =
+                  ap (λ i. cells_across (slice_range items i y.to)) e in
+                  let fits = q.narrow in
+                  absurd (omega arith)
+            ]
           ]
       | inr more ↦ more
     ]

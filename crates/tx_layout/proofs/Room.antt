@@ -1,7 +1,7 @@
 -- No line reaches beyond its page.
 use Rattle.std.proofs.Common.{◌≡◌, ℕ, zero, suc, ◌+◌, ◌-◌, ◌<◌, ◌≤◌, min, List, [], ◌∷◌, map, length, take, drop}
 use Rattle.std.proofs.Common.{replicate, cond, get_or, refl, sym, ap, ap₂, ◌∙◌, subst, arith, Bool, true, false, nat_le}
-use Rattle.std.proofs.Common.{Some}
+use Rattle.std.proofs.Common.{Some, None}
 use Rattle.std.proofs.Math.ListN.{get_or-map}
 use Rattle.std.specs.Prelude.{slice_range, slice_get, All}
 use Rattle.std.proofs.lemmas.Bool.{leb-true}
@@ -15,21 +15,24 @@ use Rattle.tx_lines.specs.FirstFit.{line_cells, width_of}
 use Rattle.tx_lines.proofs.Cells.{cells_of_one, cells_of_more}
 use Rattle.tx_lines.proofs.Places.{forward}
 use Rattle.tx_items.specs.declared.drawing.Item.{Item}
-use Rattle.tx_items.specs.declared.drawing.Item.TheVariants.{Glyph, Space, Gap, Break, PageEnd, Down}
+use Rattle.tx_items.specs.declared.drawing.Item.TheVariants.{Glyph, Space, Chance, Gap, Break, PageEnd, Down}
 use Rattle.tx_items.specs.declared.drawing.Paragraph.{Paragraph}
 use Rattle.tx_layout.specs.declared.measures.Side.{Side}
-use Rattle.tx_layout.specs.declared.measures.Side.TheVariants.{Left, Center, Right}
+use Rattle.tx_layout.specs.declared.measures.Side.TheVariants.{Left, Center, Right, Justify}
 use Rattle.tx_layout.specs.declared.measures.Frame.{Frame}
 use Rattle.tx_layout.specs.declared.pieces.Span.{Span}
 use Rattle.tx_layout.specs.declared.layout.Line.{Line}
 use Rattle.tx_layout.specs.Frames.{whole_cells, moved_by, has_room, left_margin, right_margin}
 use Rattle.tx_layout.specs.Frames.{line_frame, least_width}
 use Rattle.tx_layout.specs.Words.{item_cells, cells_across, SpansFrom}
-use Rattle.tx_layout.specs.Segments.{shift, piece_of, width_at, indent_at, no_span, line_of, lines_of, HasWords}
+use Rattle.tx_layout.specs.Segments.{shift, put_in, piece_of, width_at, indent_at, no_span, are_none, line_of, lines_of}
+use Rattle.tx_layout.specs.Segments.{HasWords}
+use Rattle.tx_layout.specs.Spread.{spaces_among, spread}
 use Rattle.tx_layout.specs.Shapes.{empty_line, page_ending, with_last, behind_cut, or_empty, items_shown, IsShape}
 use Rattle.tx_layout.specs.Shapes.{HasLines, last_segment, then_cut}
 use Rattle.tx_layout.proofs.Spans.{rises}
 use Rattle.tx_layout.proofs.Kept.{place, span_at, place_behind}
+use Rattle.tx_layout.proofs.Spreading.{takes_most, fills, same_spaces}
 
 abbrev Within : ℕ → Line → Type 0
 Within width line = line.indent + cells_across line.items ≤ width
@@ -103,10 +106,13 @@ cut_cells least items ss cut h some within =
 
 -- ---- lines of a segment
 
-shift_le : (side : Side) (free : ℕ) → shift side free ≤ free
-shift_le Left free = omega arith
-shift_le Center free = omega arith
-shift_le Right free = omega arith
+-- what a line is moved and what is put in are at most its free cells
+moved_le : (side : Side) (e : Bool) (free : ℕ) → shift side free + put_in side e free ≤ free
+moved_le Left e free = omega arith
+moved_le Center e free = omega arith
+moved_le Right e free = omega arith
+moved_le Justify true free = omega arith
+moved_le Justify false free = omega arith
 
 later_alone : (later j : ℕ) → width_of later later j ≡ later
 later_alone later zero = refl
@@ -126,10 +132,66 @@ words_room frame b width least items ss (cut ∷ cuts) k h order first later fit
     let cells = cut_cells least items ss cut h (omega arith) ahead in
     let line : List Item = slice_range items (get_or ss cut.from no_span).from (get_or ss (cut.to - 1) no_span).to in
     let own : line_cells (map (piece_of items) ss) cut.from cut.to ≤ width_at frame b = fits 0 cut refl in
-    let moved = shift_le frame.side (width_at frame b - cells_across line) in
-    All-cons (Within width) (line_of frame b items ss cut) (lines_of frame false items ss cuts) (omega arith)
+    let free : ℕ = width_at frame b - cells_across line in
+    let moved = moved_le frame.side (are_none cuts) free in
+    let most = takes_most (put_in frame.side (are_none cuts) free) line in
+    All-cons (Within width) (line_of frame b (are_none cuts) items ss cut) (lines_of frame false items ss cuts) (omega arith)
     (words_room frame false width least items ss cuts cut.to h order.2 later later
     (λ j c e. let fit = fits (suc j) c e in let same = later_alone frame.later_width j in omega arith))
+
+-- ---- spread lines
+
+-- a line that is spread, and has a space, has its width
+full_line : (frame : Frame) (b : Bool) (line : List Item) → frame.side ≡ Justify → cells_across line ≤ width_at frame b
+    → 0 < spaces_among (spread (put_in frame.side false (width_at frame b - cells_across line)) line)
+    → cells_across (spread (put_in frame.side false (width_at frame b - cells_across line)) line) ≡ width_at frame b
+full_line frame b line is fits some =
+    let free : ℕ = width_at frame b - cells_across line in
+    let put : put_in frame.side false free ≡ free = ap (λ s. put_in s false free) is in
+    let own : 0 < spaces_among line = omega (arith, some, same_spaces (put_in frame.side false free) line) in
+    let all = fills free line own in
+    ap (λ n. cells_across (spread n line)) put ∙ omega (arith, all, fits)
+
+no_line : {X : Type 0} (x : X) → None ≡ Some x → ⊥
+no_line x e = cc
+
+some_line : {X : Type 0} (x y : X) → Some x ≡ Some y → x ≡ y
+some_line x y e = cc
+
+words_full : (frame : Frame) → frame.side ≡ Justify → (b : Bool) (least : ℕ) (items : List Item) (ss : List Span)
+    (cuts : List Cut) (k : ℕ) → SpansFrom least items 0 ss → Partitions cuts k (length ss)
+    → ((j : ℕ) (cut : Cut) → slice_get cuts j ≡ Some cut
+    → line_cells (map (piece_of items) ss) cut.from cut.to ≤ width_of (width_at frame b) frame.later_width j)
+    → (j : ℕ) (line next : Line) → slice_get (lines_of frame b items ss cuts) j ≡ Some line
+    → slice_get (lines_of frame b items ss cuts) (suc j) ≡ Some next → 0 < spaces_among line.items
+    → cells_across line.items ≡ width_of (width_at frame b) frame.later_width j
+words_full frame is b least items ss [] k h order fits j line next e f some = absurd (no_line line e)
+words_full frame is b least items ss (cut ∷ []) k h order fits zero line next e f some = absurd (no_line next f)
+words_full frame is b least items ss (cut ∷ []) k h order fits (suc j) line next e f some = absurd (no_line line e)
+words_full frame is b least items ss (cut ∷ (c ∷ cs)) k h order fits zero line next e f some =
+    let begins = order.0 in
+    let long = order.1 in
+    let ahead = forward (c ∷ cs) cut.to (length ss) order.2 in
+    let cells = cut_cells least items ss cut h (omega arith) ahead in
+    let own : line_cells (map (piece_of items) ss) cut.from cut.to ≤ width_at frame b = fits 0 cut refl in
+    let same : line_of frame b false items ss cut ≡ line = some_line _ line e in
+    let plain : List Item = slice_range items (get_or ss cut.from no_span).from (get_or ss (cut.to - 1) no_span).to in
+    ap (λ (l : Line). cells_across l.items) (sym same)
+    ∙ full_line frame b plain is (omega (arith, own, cells))
+    (subst (λ (l : Line). 0 < spaces_among l.items) (sym same) some)
+words_full frame is b least items ss (cut ∷ (c ∷ cs)) k h order fits (suc j) line next e f some =
+    words_full frame is false least items ss (c ∷ cs) cut.to h order.2
+    (λ i d g. let fit = fits (suc i) d g in let same = later_alone frame.later_width i in omega arith) j line next e f
+    some ∙ later_alone frame.later_width j
+
+pub segment_full : (frame : Frame) (b : Bool) (items : List Item) (lines : List Line) (k : ℕ) (line next : Line)
+    → frame.side ≡ Justify → HasWords frame b items lines → slice_get lines k ≡ Some line
+    → slice_get lines (suc k) ≡ Some next → 0 < spaces_among line.items
+    → cells_across line.items ≡ width_of (width_at frame b) frame.later_width k
+segment_full frame b items lines k line next is h e f some =
+    words_full frame is b (least_width frame) items h.spans h.cuts 0 h.spelled
+    (subst (Partitions h.cuts 0) (length-map h.spans (piece_of items)) h.filled.in_order) h.filled.fits k line next
+    (ap (λ ls. slice_get ls k) (sym h.made) ∙ e) (ap (λ ls. slice_get ls (suc k)) (sym h.made) ∙ f) some
 
 -- ---- lines of a paragraph
 
@@ -159,6 +221,7 @@ behind_room : (width : ℕ) (cut : Item) (lines : List Line) → All (Within wid
     → All (Within width) (behind_cut cut lines)
 behind_room width (Glyph d) lines h = h
 behind_room width (Space d) lines h = h
+behind_room width (Chance d) lines h = h
 behind_room width (Gap n) lines h = h
 behind_room width Break lines h = h
 behind_room width PageEnd lines h = last_room width lines h

@@ -1,7 +1,9 @@
 -- Pieces in order, and the rows of their cuts.
-use Rattle.std.proofs.Common.{◌≡◌, ℕ, zero, suc, ◌+◌, ◌-◌, ◌<◌, ◌≤◌, min, List, [], ◌∷◌, ◌++◌, map, length, drop}
-use Rattle.std.proofs.Common.{get_or, refl, sym, ap, ◌∙◌, subst, arith, Bool, true, false, append_assoc, append-nil}
+use Rattle.std.proofs.Common.{◌≡◌, ◌==◌, ℕ, zero, suc, ◌+◌, ◌-◌, ◌<◌, ◌≤◌, min, List, [], ◌∷◌, ◌++◌, map, length, drop}
+use Rattle.std.proofs.Common.{get_or, refl, sym, ap, ◌∙◌, subst, arith, Bool, true, false, append_assoc}
+use Rattle.std.proofs.Common.{append-nil}
 use Rattle.std.specs.Prelude.{slice_range, All}
+use Rattle.std.proofs.lemmas.Bool.{eqb-true}
 use Rattle.std.proofs.lemmas.List.Elements.{All-nil, All-cons}
 use Rattle.std.proofs.lemmas.List.{length-drop, drop_more, take_all}
 use Rattle.tx_lines.specs.declared.cut.Cut.{Cut}
@@ -15,7 +17,7 @@ use Rattle.tx_layout.specs.declared.pieces.Span.{Span}
 use Rattle.tx_layout.specs.declared.segments.Row.{Row}
 use Rattle.tx_layout.specs.Frames.{least_width, IsFrame}
 use Rattle.tx_layout.specs.Words.{Blank, IsSpan, SpansFrom}
-use Rattle.tx_layout.specs.Segments.{piece_of, width_at}
+use Rattle.tx_layout.specs.Segments.{piece_of, width_at, are_none}
 use Rattle.tx_layout.specs.Rows.{Rises, row_at, rows_at, capped_piece}
 
 -- one piece more
@@ -117,16 +119,25 @@ cut_step cuts i at len cut there is h =
     (omega arith, forward (drop (i + 1) cuts) cut.to len parts.2, parts.2)
 
 pub row_step : (frame : Frame) (b : Bool) (start : ℕ) (items : List Item) (spans : List Span) (cuts : List Cut) (i : ℕ)
-    (cut : Cut) (rows rows' whole : List Row) (row : Row) → i < length cuts → cut ≡ get_or cuts i cut
-    → rows' ≡ rows ++ row ∷ [] → row ≡ row_at frame b start items spans cut
+    (cut : Cut) (rows rows' whole : List Row) (row : Row) (e : Bool) → i < length cuts → cut ≡ get_or cuts i cut
+    → rows' ≡ rows ++ row ∷ [] → row ≡ row_at frame b e start items spans cut → e ≡ are_none (drop (i + 1) cuts)
     → rows ++ rows_at frame b start items spans (drop i cuts) ≡ whole
     → rows' ++ rows_at frame false start items spans (drop (i + 1) cuts) ≡ whole
-row_step frame b start items spans cuts i cut rows rows' whole row there is e f so_far =
+row_step frame b start items spans cuts i cut rows rows' whole row last there is e f g so_far =
     let first : drop i cuts ≡ cut ∷ drop (i + 1) cuts =
     drop_more cuts i cut there ∙ ap (λ c. c ∷ drop (i + 1) cuts) (sym is) in
     let later : List Row = rows_at frame false start items spans (drop (i + 1) cuts) in
-    ap (λ rs. rs ++ later) e ∙ append_assoc rows (row ∷ []) later ∙ ap (λ r. rows ++ r ∷ later) f
+    ap (λ rs. rs ++ later) e ∙ append_assoc rows (row ∷ []) later ∙ ap (λ r. rows ++ r ∷ later) (f ∙ ap (λ c. row_at frame b c start items spans cut) g)
     ∙ ap (λ cs. rows ++ rows_at frame b start items spans cs) (sym first) ∙ so_far
+
+-- whether no cut is left, by their number
+pub none_by : (cuts : List Cut) (n : ℕ) → n ≡ length cuts → (n == 0) ≡ are_none cuts
+none_by [] n e = ap (λ k. k == 0) e
+none_by (cut ∷ cuts) n e = by (n == 0) refl
+  where
+    by : (b : Bool) → (n == 0) ≡ b → (n == 0) ≡ false
+    by true is = let same : n ≡ 0 = eqb-true n 0 is in absurd (omega arith)
+    by false is = is
 
 pub at_least : (frame : Frame) (b : Bool) → least_width frame ≤ width_at frame b
 at_least frame true = omega arith

@@ -10,7 +10,7 @@ use Rattle.tx_lines.specs.declared.first_fit.Piece.{Piece}
 use Rattle.tx_lines.specs.Cuts.{Partitions}
 use Rattle.tx_lines.specs.FirstFit.{cells_of, line_cells, width_of, IsFirstFit}
 use Rattle.tx_items.specs.declared.drawing.Item.{Item}
-use Rattle.tx_items.specs.declared.drawing.Item.TheVariants.{Glyph, Space, Gap, Break, PageEnd, Down}
+use Rattle.tx_items.specs.declared.drawing.Item.TheVariants.{Glyph, Space, Chance, Gap, Break, PageEnd, Down}
 use Rattle.tx_items.specs.Narrow.{IsNarrow}
 use Rattle.tx_layout.specs.declared.measures.Frame.{Frame}
 use Rattle.tx_layout.specs.declared.pieces.Span.{Span}
@@ -98,6 +98,7 @@ filled items ss pieces first later cuts a b e h =
 one_shown : (least : ℕ) (i : Item) → 10 ≤ least → IsNarrow i → Narrow least (capped_item least i)
 one_shown least (Glyph d) h n = omega arith
 one_shown least (Space d) h n = omega arith
+one_shown least (Chance d) h n = omega arith
 one_shown least (Gap m) h n = omega arith
 one_shown least Break h n = omega arith
 one_shown least PageEnd h n = omega arith

@@ -4,7 +4,7 @@ use Rattle.std.specs.Str.{bytes_eq}
 use Rattle.tx_lines.specs.FirstFit.{IsWidth}
 use Rattle.tx_items.specs.declared.drawing.Paragraph.{Paragraph}
 use Rattle.tx_layout.specs.declared.measures.Side.{Side}
-use Rattle.tx_layout.specs.declared.measures.Side.TheVariants.{Left, Center, Right}
+use Rattle.tx_layout.specs.declared.measures.Side.TheVariants.{Left, Center, Right, Justify}
 use Rattle.tx_layout.specs.declared.measures.Frame.{Frame}
 
 -- the whole thousands of a length, where one below 0 counts as 0
@@ -35,6 +35,7 @@ abbrev pub side_of : List ℕ → Side
 side_of mode =
     if bytes_eq mode (codes "center") then Center
     else if bytes_eq mode (codes "right") then Right
+    else if bytes_eq mode (codes "justify") then Justify
     else Left
 
 abbrev pub line_frame : Paragraph → ℕ → Frame

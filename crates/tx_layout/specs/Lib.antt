@@ -1,5 +1,6 @@
 pub mod Frames
 pub mod Words
+pub mod Spread
 pub mod Segments
 pub mod Shapes
 pub mod Rows

@@ -11,16 +11,17 @@ use Rattle.tx_layout.specs.declared.segments.Row.{Row}
 use Rattle.tx_layout.specs.declared.layout.Line.{Line}
 use Rattle.tx_layout.specs.Frames.{least_width}
 use Rattle.tx_layout.specs.Words.{cells_across, item_cells, SpansFrom}
-use Rattle.tx_layout.specs.Segments.{shift, piece_of, width_at, indent_at, no_span, HasWords}
+use Rattle.tx_layout.specs.Spread.{spread}
+use Rattle.tx_layout.specs.Segments.{shift, put_in, piece_of, width_at, indent_at, no_span, are_none, HasWords}
 use Rattle.tx_layout.specs.Shapes.{behind_cut_by, or_single, or_empty}
 
--- the line with the items at these places
+-- the line with the items at these places, and the cells that are put in
 abbrev pub line_at : List Item → Row → Line
 line_at items row =
-    record { indent = row.indent; items = slice_range items row.from row.to; page_end = row.page_end }
+    record { indent = row.indent; items = spread row.put (slice_range items row.from row.to); page_end = row.page_end }
 
 abbrev pub empty_row : Row
-empty_row = record { indent = 0; from = 0; to = 0; page_end = false }
+empty_row = record { indent = 0; from = 0; to = 0; put = 0; page_end = false }
 
 abbrev pub row_ending : Row → Row
 row_ending row = record row { page_end = true }
@@ -31,31 +32,32 @@ rows_behind cut rows = behind_cut_by row_ending empty_row cut rows
 abbrev pub rows_or_empty : Bool → Bool → List Row → List Row
 rows_or_empty is_first is_last rows = or_single empty_row is_first is_last rows
 
--- the places are within so many items
+-- the places are within so many items, and no more cells are put in than a page has
 abbrev pub IsWithin : ℕ → Row → Type 0
-IsWithin len row = (row.from ≤ row.to) × (row.to ≤ len)
+IsWithin len row = (row.from ≤ row.to) × (row.to ≤ len) × (row.put ≤ 500)
 
 -- an item is no wider than this
 abbrev pub Narrow : ℕ → Item → Type 0
 Narrow least item = item_cells item ≤ least
 
 -- the row of a cut of the pieces of a segment that begins at a place
-abbrev pub row_at : Frame → Bool → ℕ → List Item → List Span → Cut → Row
-row_at frame is_first start segment spans cut =
+abbrev pub row_at : Frame → Bool → Bool → ℕ → List Item → List Span → Cut → Row
+row_at frame is_first is_last start segment spans cut =
     let from = (get_or spans cut.from no_span).from in
     let to = (get_or spans (cut.to - 1) no_span).to in
+    let free = width_at frame is_first - cells_across (slice_range segment from to) in
     record {
-      indent = indent_at frame is_first
-          + shift frame.side (width_at frame is_first - cells_across (slice_range segment from to));
+      indent = indent_at frame is_first + shift frame.side free;
       from = start + from;
       to = start + to;
+      put = put_in frame.side is_last free;
       page_end = false;
     }
 
 abbrev pub rows_at : Frame → Bool → ℕ → List Item → List Span → List Cut → List Row
 rows_at frame is_first start segment spans [] = []
 rows_at frame is_first start segment spans (cut ∷ cuts) =
-    row_at frame is_first start segment spans cut ∷ rows_at frame false start segment spans cuts
+    row_at frame is_first (are_none cuts) start segment spans cut ∷ rows_at frame false start segment spans cuts
 
 -- more cells than any line has room for count as 501
 abbrev pub capped_piece : Piece → Piece

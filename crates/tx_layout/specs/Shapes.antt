@@ -2,7 +2,7 @@
 use Rattle.std.specs.Prelude.{◌≡◌, ℕ, Bool, true, false, not, ◌&&◌, List, [], ◌∷◌, ◌++◌, map, replicate, All}
 use Rattle.std.specs.Prelude.{if◌then◌else◌}
 use Rattle.tx_items.specs.declared.drawing.Item.{Item}
-use Rattle.tx_items.specs.declared.drawing.Item.TheVariants.{Glyph, Space, Gap, Break, PageEnd, Down}
+use Rattle.tx_items.specs.declared.drawing.Item.TheVariants.{Glyph, Space, Chance, Gap, Break, PageEnd, Down}
 use Rattle.tx_items.specs.declared.drawing.Paragraph.{Paragraph}
 use Rattle.tx_layout.specs.declared.measures.Frame.{Frame}
 use Rattle.tx_layout.specs.declared.layout.Line.{Line}
@@ -14,6 +14,7 @@ use Rattle.tx_layout.specs.Segments.{HasWords}
 abbrev pub is_break : Item → Bool
 is_break (Glyph d) = false
 is_break (Space d) = false
+is_break (Chance d) = false
 is_break (Gap n) = false
 is_break Break = true
 is_break PageEnd = true
@@ -41,6 +42,7 @@ with_last change (x ∷ (y ∷ ys)) = x ∷ with_last change (y ∷ ys)
 abbrev pub behind_cut_by : {X : Type 0} → (X → X) → X → Item → List X → List X
 behind_cut_by mark empty (Glyph d) lines = lines
 behind_cut_by mark empty (Space d) lines = lines
+behind_cut_by mark empty (Chance d) lines = lines
 behind_cut_by mark empty (Gap n) lines = lines
 behind_cut_by mark empty Break lines = lines
 behind_cut_by mark empty PageEnd lines = with_last mark lines
@@ -66,14 +68,25 @@ pub data HasLines (frame : Frame) : Bool → List Item → List Line → Type 0 
       → HasLines frame false rest others
       → HasLines frame is_first items (behind_cut cut (or_empty is_first false words) ++ others)
 
--- what stands on a line wherever the line ends
+-- what is on a line wherever the line ends
 abbrev pub is_ink : Item → Bool
 is_ink (Glyph d) = true
 is_ink (Space d) = false
+is_ink (Chance d) = true
 is_ink (Gap n) = true
 is_ink Break = false
 is_ink PageEnd = false
 is_ink (Down n) = false
+
+-- the clusters among it
+abbrev pub is_ink_cluster : Item → Bool
+is_ink_cluster (Glyph d) = true
+is_ink_cluster (Space d) = false
+is_ink_cluster (Chance d) = true
+is_ink_cluster (Gap n) = false
+is_ink_cluster Break = false
+is_ink_cluster PageEnd = false
+is_ink_cluster (Down n) = false
 
 -- the items of a paragraph as they stand on lines
 abbrev pub items_shown : Paragraph → ℕ → List Item

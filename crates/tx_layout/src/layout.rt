@@ -1,15 +1,23 @@
 // The lines of a paragraph.
-ghost use Rattle.std.specs.Prelude.{◌≡◌, ℕ, ◌≤◌, ◌<◌, ◌+◌, ◌^◌, List, map, length, All, IfOk, IsTrue, filter};
+ghost use Rattle.std.specs.Prelude.{◌≡◌, ◌≢◌, ℕ, ◌≤◌, ◌<◌, ◌+◌, ◌^◌, ◌++◌, ◌∷◌, Bool, List, map, length, All, IfOk, OnOk};
+ghost use Rattle.std.specs.Prelude.{IsTrue, Some, filter, slice_get, slice_range};
 ghost use Rattle.std.specs.List.{flat_map};
 ghost use Rattle.tx_items.specs.declared.drawing.Item.{Item};
 ghost use Rattle.tx_items.specs.declared.drawing.Paragraph.{Paragraph};
 ghost use Rattle.tx_items.specs.Narrow.{IsNarrow};
+ghost use Rattle.tx_lines.specs.FirstFit.{width_of};
 ghost use Rattle.tx_layout.specs.declared.layout.Line.{Line};
+ghost use Rattle.tx_layout.specs.declared.measures.Frame.{Frame as Measures};
+ghost use Rattle.tx_layout.specs.declared.measures.Side.TheVariants.{Justify};
+ghost use Rattle.tx_layout.specs.Frames.{side_of};
+ghost use Rattle.tx_layout.specs.Segments.{HasWords, width_at};
+ghost use Rattle.tx_layout.specs.Spread.{spaces_among, gap_of, spread_by, spread};
 ghost use Rattle.tx_layout.specs.Words.{capped_item, cells_across};
-ghost use Rattle.tx_layout.specs.Shapes.{items_shown, IsShape, is_ink};
+ghost use Rattle.tx_layout.specs.Shapes.{items_shown, IsShape, is_ink, is_ink_cluster};
 ghost use Rattle.tx_layout.specs.Rows.{IsWithin, line_at};
 
 use crate::measures::line_frame;
+use crate::pieces::is_blank_item;
 use crate::segments::{Row, least_width};
 use crate::shapes::shape;
 use std::alloc::Global;
@@ -18,8 +26,8 @@ use std::sync::ledger::Ledger;
 use tx_base::{Memory, Steps};
 use tx_items::{Item, Items, Paragraph};
 
-/// The items on a line. Contracts see their list. All lines of a paragraph share one list of items, which is that of
-/// the paragraph unless a gap is cut.
+/// The items on a line. Contracts see their list. The lines of a paragraph share one list of items, which is that of
+/// the paragraph unless a gap is cut; a line that is spread has a list of its own.
 #[derive(Drop)]
 pub struct LineItems {
     all: Items,
@@ -89,6 +97,7 @@ fn item_shown(item: &Item, least: u32) -> Result<Item, Memory>
     match item {
         Item::Glyph(drawn) => Ok(Item::Glyph(drawn.copy()?)),
         Item::Space(drawn) => Ok(Item::Space(drawn.copy()?)),
+        Item::Chance(drawn) => Ok(Item::Chance(drawn.copy()?)),
         Item::Gap(cells) => Ok(Item::Gap((*cells).min(least))),
         Item::Break => Ok(Item::Break),
         Item::PageEnd => Ok(Item::PageEnd),
@@ -103,6 +112,7 @@ fn is_kept(item: &Item, least: u32) -> bool
     match item {
         Item::Glyph(_) => true,
         Item::Space(_) => true,
+        Item::Chance(_) => true,
         Item::Gap(cells) => *cells <= least,
         Item::Break => true,
         Item::PageEnd => true,
@@ -143,20 +153,106 @@ fn items_shown(alloc: Global, items: &Items, least: u32) -> Result<Items, Memory
     items_cut(alloc, items.all(), least)
 }
 
-// Lines that share their items.
+// So many spaces are among items.
+fn spaces_among(items: &[Item]) -> u32
+    requires { length items.now < 2 ^ 32 }
+    ensures { result ≡ spaces_among items.now }
+{
+    let mut count = 0;
+    for item in items {
+        if is_blank_item(item) {
+            count += 1;
+        }
+    }
+    count
+}
+
+// Adds an item as it is, and a gap after it, unless that has no cells.
+fn push_spaced(spread: &mut Vec<Item>, item: &Item, gap: u32) -> Result<(), Memory>
+    ensures { OnOk result (spread.new.items ≡ spread.old.items ++ item.now ∷ gap_of gap) }
+{
+    spread.push(item.copy()?)?;
+    if gap > 0 {
+        spread.push(Item::Gap(gap))?;
+    }
+    Ok(())
+}
+
+// Adds items, with so many cells after each space, and one more after each of the first ones.
+#[tactic(auto, using(crate::proofs::Spreading::spread_step, crate::proofs::Spreading::plain_step))]
+fn push_spread(spread: &mut Vec<Item>, items: &[Item], each: u32, more: u32) -> Result<(), Memory>
+    requires { each < 2 ^ 31 }
+    ensures { OnOk result (spread.new.items ≡ spread.old.items ++ spread_by each more items.now) }
+{
+    let mut left = more;
+    for item in items {
+        if is_blank_item(item) {
+            push_spaced(spread, item, each + left.min(1))?;
+            left = left.saturating_sub(1);
+        } else {
+            push_spaced(spread, item, 0)?;
+        }
+    }
+    Ok(())
+}
+
+// The items with so many cells put in after their spaces.
+#[tactic(auto, using(crate::proofs::Spreading::spread_is, crate::proofs::Spreading::spread_plain))]
+fn spread(alloc: Global, items: &[Item], free: u32) -> Result<Vec<Item>, Memory>
+    requires some { 0 < free }
+    requires few_cells { free < 2 ^ 31 }
+    requires few { length items.now < 2 ^ 32 }
+    ensures { IfOk result (λ all. all.items ≡ spread free items.now) }
+{
+    let mut all = Vec::with_capacity(alloc, items.len())?;
+    let spaces = spaces_among(items);
+    if spaces == 0 {
+        push_spread(&mut all, items, 0, 0)?;
+    } else {
+        push_spread(&mut all, items, free / spaces, free % spaces)?;
+    }
+    Ok(all)
+}
+
+// The items of a row: shared, or spread.
+fn items_of(alloc: Global, items: &Items, row: &Row) -> Result<LineItems, Memory>
+    requires within { IsWithin (length items.now) row.now }
+    requires few { length items.now < 2 ^ 32 }
+    ensures { IfOk result (λ l. l ≡ spread row.now.put (slice_range items.now row.now.from row.now.to)) }
+{
+    if row.put == 0 {
+        return Ok(LineItems {
+            all: items.share()?,
+            from: row.from,
+            to: row.to,
+        });
+    }
+    let all = spread(
+        alloc,
+        &items.all()[row.from as usize..row.to as usize],
+        row.put,
+    )?;
+    let Ok(to) = u32::try_from(all.len()) else {
+        return Err(Memory);
+    };
+    Ok(LineItems {
+        all: Items::new(alloc, all)?,
+        from: 0,
+        to,
+    })
+}
+
+// The lines of rows.
 fn share_out(alloc: Global, items: &Items, rows: &[Row]) -> Result<Vec<Line>, Memory>
-    requires { All (IsWithin (length items.now)) rows.now }
+    requires within { All (IsWithin (length items.now)) rows.now }
+    requires few { length items.now < 2 ^ 32 }
     ensures { IfOk result (λ lines. lines.items ≡ map (line_at items.now) rows.now) }
 {
     let mut lines = Vec::with_capacity(alloc, rows.len())?;
     for row in rows {
         lines.push(Line {
             indent: row.indent,
-            items: LineItems {
-                all: items.share()?,
-                from: row.from,
-                to: row.to,
-            },
+            items: items_of(alloc, items, row)?,
             page_end: row.page_end,
         })?;
     }
@@ -192,11 +288,21 @@ pub fn one_shape()
         IsShape p width lines → IsShape p width others → lines ≡ others }
 {}
 
-/// A law: the lines of a paragraph hold each glyph and each gap of it once and in order, a gap with the cells that it
-/// takes on a line.
+/// A law: the lines of a paragraph hold each glyph and each chance of it once and in order, and where no line is spread
+/// each gap too, with the cells that it takes on a line.
 pub fn items_kept()
-    ensures { (p : Paragraph) (width : ℕ) (lines : List Line) → IsShape p width lines →
+    ensures clusters { (p : Paragraph) (width : ℕ) (lines : List Line) → IsShape p width lines →
+        filter is_ink_cluster (flat_map (λ line. line.items) lines) ≡ filter is_ink_cluster (items_shown p width) }
+    ensures gaps { (p : Paragraph) (width : ℕ) (lines : List Line) → side_of p.mode ≢ Justify → IsShape p width lines →
         filter is_ink (flat_map (λ line. line.items) lines) ≡ filter is_ink (items_shown p width) }
+{}
+
+/// A law: a line of a justified segment that isn't its last one, and has a space, has exactly its width.
+pub fn spread_full()
+    ensures { (frame : Measures) (is_first : Bool) (segment : List Item) (lines : List Line) (k : ℕ) (line next : Line) →
+        frame.side ≡ Justify → HasWords frame is_first segment lines → slice_get lines k ≡ Some line →
+        slice_get lines (k + 1) ≡ Some next → 0 < spaces_among line.items →
+        cells_across line.items ≡ width_of (width_at frame is_first) frame.later_width k }
 {}
 
 /// A law: no line of a paragraph reaches beyond its page.

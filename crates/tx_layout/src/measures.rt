@@ -14,6 +14,8 @@ pub enum Side {
     Center,
     /// At the right.
     Right,
+    /// At the left, its free cells put in after its spaces, but on the last line of a segment.
+    Justify,
 }
 
 /// The measures of a paragraph's lines, in cells.
@@ -71,6 +73,8 @@ fn side_of(mode: &[u8]) -> Side
         Side::Center
     } else if mode == b"right".as_slice() {
         Side::Right
+    } else if mode == b"justify".as_slice() {
+        Side::Justify
     } else {
         Side::Left
     }
@@ -78,8 +82,8 @@ fn side_of(mode: &[u8]) -> Side
 
 /// The measures of a paragraph's lines on a page of this width, from 20 to 500 cells. Margins below 0 count as 0, and
 /// so do both margins where they leave less than 10 cells. The first line's indent is that of the others and
-/// `par-first`, cut so that it isn't below 0 and leaves 10 cells. Every mode but `center` and `right` stands at the
-/// left.
+/// `par-first`, cut so that it isn't below 0 and leaves 10 cells. Every mode but `center`, `right`
+/// and `justify` is at the left.
 pub fn line_frame(paragraph: &Paragraph, width: u32) -> Frame
     requires least { 20 ≤ width }
     requires most { width ≤ 500 }

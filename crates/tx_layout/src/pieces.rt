@@ -1,6 +1,7 @@
 // Words of a segment, cut into pieces.
-ghost use Rattle.std.specs.Prelude.{◌≡◌, ◌≤◌, ◌<◌, ◌+◌, ◌^◌, ◌⊎◌, min, map, length, All, IfOk, slice_range};
-ghost use Rattle.tx_layout.specs.Words.{is_blank_item, item_cells, cells_across, Solid, Blank, IsSpan, SpansFrom};
+ghost use Rattle.std.specs.Prelude.{◌≡◌, ◌≤◌, ◌<◌, ◌+◌, ◌-◌, ◌^◌, ◌⊎◌, min, map, length, All, IfOk, slice_range};
+ghost use Rattle.tx_layout.specs.Words.{is_blank_item, is_chance_item, item_cells, cells_across, Solid, Blank};
+ghost use Rattle.tx_layout.specs.Words.{Breakable, Unbreakable, IsSpan, SpansFrom};
 ghost use Rattle.tx_layout.specs.Segments.{piece_of};
 ghost use Rattle.tx_layout.specs.Rows.{Narrow, capped_piece};
 
@@ -9,7 +10,7 @@ use tx_base::Memory;
 use tx_items::Item;
 use tx_lines::Piece;
 
-/// Spaces, and a piece of a word behind them, by the places of items.
+/// Spaces, which may be none, and a piece of a word after them, by the places of items.
 #[derive(Clone, Copy, Debug, PartialEq, Eq)]
 pub struct Span {
     /// Where the spaces begin.
@@ -23,13 +24,14 @@ pub struct Span {
 // No line has room for more cells than this.
 const TOO_MANY: u32 = 501;
 
-// Whether a space stands here.
-fn is_blank_item(item: &Item) -> bool
+// Whether a space is here.
+pub(crate) fn is_blank_item(item: &Item) -> bool
     ensures { result ≡ is_blank_item item.now }
 {
     match item {
         Item::Glyph(_) => false,
         Item::Space(_) => true,
+        Item::Chance(_) => false,
         Item::Gap(_) => false,
         Item::Break => false,
         Item::PageEnd => false,
@@ -37,13 +39,22 @@ fn is_blank_item(item: &Item) -> bool
     }
 }
 
-/// The cells that an item takes on its line: those of its cluster or of its gap, and none for a break or a cut.
+// Whether a line may end after the item.
+fn is_chance_item(item: &Item) -> bool
+    ensures { result ≡ is_chance_item item.now }
+{
+    matches!(item, Item::Chance(_))
+}
+
+/// The cells that an item takes on its line: those of its cluster or of its gap, and none for a chance, a break or a
+/// cut.
 pub fn item_cells(item: &Item) -> u32
     ensures { result ≡ item_cells item.now }
 {
     match item {
         Item::Glyph(drawn) => u32::from(drawn.cluster.cells),
         Item::Space(drawn) => u32::from(drawn.cluster.cells),
+        Item::Chance(_) => 0,
         Item::Gap(cells) => *cells,
         Item::Break => 0,
         Item::PageEnd => 0,
@@ -80,7 +91,8 @@ fn spaces_end(items: &[Item], from: usize) -> usize
     end
 }
 
-// The end of the piece that begins here: its greatest front that is no wider than `least`.
+// The end of the piece that begins here: its greatest front that is no wider than `least`, and without a chance before
+// its last item.
 fn piece_end(items: &[Item], from: usize, least: u32) -> usize
     requires there { from < length items.now }
     requires begins { All Solid (slice_range items.now from (from + 1)) }
@@ -89,18 +101,25 @@ fn piece_end(items: &[Item], from: usize, least: u32) -> usize
     ensures some { from < result }
     ensures within { result ≤ length items.now }
     ensures solid { All Solid (slice_range items.now from result) }
+    ensures unbroken { All Unbreakable (slice_range items.now from (result - 1)) }
     ensures narrow { cells_across (slice_range items.now from result) ≤ least }
     ensures greatest { result < length items.now →
         All Blank (slice_range items.now result (result + 1))
+        ⊎ All Breakable (slice_range items.now (result - 1) result)
         ⊎ (least < cells_across (slice_range items.now from (result + 1))) }
 {
     let mut used = item_cells(&items[from]);
     let mut end = from + 1;
     while end < items.len() {
-        if is_blank_item(&items[end]) {
+        let before = &items[end - 1];
+        let item = &items[end];
+        if is_blank_item(item) {
             return end;
         }
-        let more = used + item_cells(&items[end]);
+        if is_chance_item(before) {
+            return end;
+        }
+        let more = used + item_cells(item);
         if more > least {
             return end;
         }

@@ -2,7 +2,7 @@
 ghost use Rattle.std.specs.Prelude.{◌≡◌, ◌≤◌, ◌<◌, ◌+◌, ◌^◌, min, map, length, All, IfOk};
 ghost use Rattle.tx_lines.specs.Cuts.{Partitions};
 ghost use Rattle.tx_layout.specs.Frames.{least_width, IsFrame};
-ghost use Rattle.tx_layout.specs.Segments.{shift, width_at};
+ghost use Rattle.tx_layout.specs.Segments.{shift, put_in, width_at, indent_at};
 ghost use Rattle.tx_layout.specs.Rows.{Narrow, Rises, row_at, rows_at, AreRows};
 
 use crate::measures::{Frame, Side};
@@ -19,8 +19,10 @@ pub(crate) struct Row {
     pub(crate) indent: u32,
     // Its first item.
     pub(crate) from: u32,
-    // The place behind its last item.
+    // The place after its last item.
     pub(crate) to: u32,
+    // The cells that are put in after its spaces.
+    pub(crate) put: u32,
     // Whether it is the last of its page.
     pub(crate) page_end: bool,
 }
@@ -33,6 +35,28 @@ fn shift(side: Side, free: u32) -> u32
         Side::Left => 0,
         Side::Center => free / 2,
         Side::Right => free,
+        Side::Justify => 0,
+    }
+}
+
+// How many of a line's free cells are put in after its spaces.
+fn put_in(side: Side, is_last: bool, free: u32) -> u32
+    ensures { result ≡ put_in side is_last free }
+{
+    match side {
+        Side::Left | Side::Center | Side::Right => 0,
+        Side::Justify => { if is_last { 0 } else { free } }
+    }
+}
+
+// The indent of the first line, or of another.
+fn indent_at(frame: Frame, is_first: bool) -> u32
+    ensures { result ≡ indent_at frame is_first }
+{
+    if is_first {
+        frame.first_indent
+    } else {
+        frame.later_indent
     }
 }
 
@@ -58,6 +82,7 @@ pub(crate) fn least_width(frame: Frame) -> u32
 fn row_of(
     frame: Frame,
     is_first: bool,
+    is_last: bool,
     start: u32,
     segment: &[Item],
     spans: &[Span],
@@ -68,23 +93,17 @@ fn row_of(
     requires some { cut.from < cut.to }
     requires within { cut.to ≤ length spans.now }
     requires rise { Rises segment.now spans.now }
-    ensures { result ≡ row_at frame is_first start segment.now spans.now cut }
+    ensures { result ≡ row_at frame is_first is_last start segment.now spans.now cut }
 {
     let from = spans[cut.from as usize].from;
     let to = spans[cut.to as usize - 1].to;
     let used = capped_cells(&segment[from as usize..to as usize]);
-    if is_first {
-        return Row {
-            indent: frame.first_indent + shift(frame.side, frame.first_width.saturating_sub(used)),
-            from: start + from,
-            to: start + to,
-            page_end: false,
-        };
-    }
+    let free = width_at(frame, is_first).saturating_sub(used);
     Row {
-        indent: frame.later_indent + shift(frame.side, frame.later_width.saturating_sub(used)),
+        indent: indent_at(frame, is_first) + shift(frame.side, free),
         from: start + from,
         to: start + to,
+        put: put_in(frame.side, is_last, free),
         page_end: false,
     }
 }
@@ -107,8 +126,11 @@ fn cut_rows(
 {
     let mut rows = Vec::with_capacity(alloc, cuts.len())?;
     let mut first = is_first;
+    let mut left = cuts.len();
     for cut in cuts {
-        rows.push(row_of(frame, first, start, segment, spans, *cut))?;
+        left -= 1;
+        let row = row_of(frame, first, left == 0, start, segment, spans, *cut);
+        rows.push(row)?;
         first = false;
     }
     Ok(rows)

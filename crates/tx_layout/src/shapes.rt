@@ -16,6 +16,7 @@ const EMPTY: Row = Row {
     indent: 0,
     from: 0,
     to: 0,
+    put: 0,
     page_end: false,
 };
 
@@ -26,6 +27,7 @@ fn is_break(item: &Item) -> bool
     match item {
         Item::Glyph(_) => false,
         Item::Space(_) => false,
+        Item::Chance(_) => false,
         Item::Gap(_) => false,
         Item::Break => true,
         Item::PageEnd => true,
@@ -96,6 +98,7 @@ fn add_cut(own: &mut Vec<Row>, cut: &Item) -> Result<(), Memory>
     match cut {
         Item::Glyph(_) => {}
         Item::Space(_) => {}
+        Item::Chance(_) => {}
         Item::Gap(_) => {}
         Item::Break => {}
         Item::PageEnd => {

@@ -10,10 +10,10 @@ use Rattle.tx_text.specs.declared.cutting.Cluster.{Cluster}
 use Rattle.tx_text.specs.Clusters.{items_of, clusters_of}
 use Rattle.tx_items.specs.declared.attributes.Attrs.{Attrs}
 use Rattle.tx_items.specs.declared.drawing.Item.{Item}
-use Rattle.tx_items.specs.declared.drawing.Item.TheVariants.{Glyph, Space, Gap, Down}
+use Rattle.tx_items.specs.declared.drawing.Item.TheVariants.{Glyph, Space, Chance, Gap, Down}
 use Rattle.tx_items.specs.declared.drawing.Paragraph.{Paragraph}
 use Rattle.tx_items.specs.Attributes.{with_named, attribute_in}
-use Rattle.tx_items.specs.Drawing.{is_space, look_of, item_of, drawn}
+use Rattle.tx_items.specs.Drawing.{is_space, is_chance, look_of, item_of, drawn}
 use Rattle.tx_items.specs.Rules.{Rule, rule_of}
 use Rattle.tx_items.specs.Rules as rules
 use Rattle.tx_items.specs.Shows.{ItemRun, empty, begun, run_of, beside, whole_run, run_ended, Form, inline, listed}
@@ -31,16 +31,19 @@ module _ (base : List ℕ) where
 
   cluster_deeper : (a : Attrs) (at : Option (List ℕ)) (c : Cluster) →
       item_of (look_of a (origin_under base at)) c ≡ item_under base (item_of (look_of a at) c)
-  cluster_deeper a at c = by (is_space c.glyphs)
+  cluster_deeper a at c = by (is_space c.glyphs) (is_chance c.glyphs)
     where
-      by : (b : Bool) →
+      by : (b e : Bool) →
           (if b then Space (record { cluster = c; look = look_of a (origin_under base at) })
+          else if e then Chance (record { cluster = c; look = look_of a (origin_under base at) })
           else Glyph (record { cluster = c; look = look_of a (origin_under base at) })) ≡
           item_under base
           (if b then Space (record { cluster = c; look = look_of a at })
+          else if e then Chance (record { cluster = c; look = look_of a at })
           else Glyph (record { cluster = c; look = look_of a at }))
-      by true = refl
-      by false = refl
+      by true e = refl
+      by false true = refl
+      by false false = refl
 
   clusters_deeper : (a : Attrs) (at : Option (List ℕ)) (cs : List Cluster) →
       map (item_of (look_of a (origin_under base at))) cs ≡ map (item_under base) (map (item_of (look_of a at)) cs)

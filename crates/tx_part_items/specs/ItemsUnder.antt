@@ -3,7 +3,7 @@ use Rattle.std.specs.Prelude.{ℕ, List, map}
 use Rattle.tx_origin.specs.Under.{origin_under}
 use Rattle.tx_items.specs.Looks.{WideLook}
 use Rattle.tx_items.specs.declared.drawing.Item.{Item}
-use Rattle.tx_items.specs.declared.drawing.Item.TheVariants.{Glyph, Space, Gap, Break, PageEnd, Down}
+use Rattle.tx_items.specs.declared.drawing.Item.TheVariants.{Glyph, Space, Chance, Gap, Break, PageEnd, Down}
 use Rattle.tx_items.specs.declared.drawing.Paragraph.{Paragraph}
 use Rattle.tx_items.specs.Shows.{ItemRun, empty, begun, Form, inline, listed, Shown}
 
@@ -13,6 +13,7 @@ look_under base look = record look { at = origin_under base look.at }
 abbrev pub item_under : List ℕ → Item → Item
 item_under base (Glyph d) = Glyph (record d { look = look_under base d.look })
 item_under base (Space d) = Space (record d { look = look_under base d.look })
+item_under base (Chance d) = Chance (record d { look = look_under base d.look })
 item_under base (Gap n) = Gap n
 item_under base Break = Break
 item_under base PageEnd = PageEnd

@@ -3,7 +3,7 @@ use Rattle.std.proofs.Common.{◌≡◌, ℕ, List, [], ◌∷◌, ◌++◌, map
 use Rattle.std.specs.Prelude.{Option, Some, None, replicate}
 use Rattle.std.specs.List.{flat_map}
 use Rattle.tx_items.specs.declared.drawing.Item.{Item}
-use Rattle.tx_items.specs.declared.drawing.Item.TheVariants.{Glyph, Space, Gap, Break, PageEnd, Down}
+use Rattle.tx_items.specs.declared.drawing.Item.TheVariants.{Glyph, Space, Chance, Gap, Break, PageEnd, Down}
 use Rattle.tx_layout.specs.declared.layout.Line.{Line}
 use Rattle.tx_part_items.specs.ItemsUnder.{item_under}
 use Rattle.tx_part_layout.specs.LinesUnder.{line_under}
@@ -13,6 +13,7 @@ use Rattle.tx_print.specs.Runs.{CellLook, item_looks, looks_on, runs_from, run_t
 printed_under : (base : List ℕ) (x : Item) → printed_item (item_under base x) ≡ printed_item x
 printed_under base (Glyph d) = refl
 printed_under base (Space d) = refl
+printed_under base (Chance d) = refl
 printed_under base (Gap n) = refl
 printed_under base Break = refl
 printed_under base PageEnd = refl
@@ -21,6 +22,7 @@ printed_under base (Down n) = refl
 looks_under : (base : List ℕ) (x : Item) → item_looks (item_under base x) ≡ item_looks x
 looks_under base (Glyph d) = refl
 looks_under base (Space d) = refl
+looks_under base (Chance d) = refl
 looks_under base (Gap n) = refl
 looks_under base Break = refl
 looks_under base PageEnd = refl

@@ -2,7 +2,7 @@
 use Rattle.std.specs.Prelude.{ℕ, List, [], ◌∷◌, ◌++◌, replicate}
 use Rattle.std.specs.List.{flat_map}
 use Rattle.tx_items.specs.declared.drawing.Item.{Item}
-use Rattle.tx_items.specs.declared.drawing.Item.TheVariants.{Glyph, Space, Gap, Break, PageEnd, Down}
+use Rattle.tx_items.specs.declared.drawing.Item.TheVariants.{Glyph, Space, Chance, Gap, Break, PageEnd, Down}
 use Rattle.tx_layout.specs.declared.layout.Line.{Line}
 use Rattle.tx_text.specs.Clusters.{items_of}
 use Rattle.tx_text.specs.Displays.{display_text}
@@ -22,6 +22,7 @@ shown text = display_text (items_of text)
 abbrev pub printed_item : Item → List ℕ
 printed_item (Glyph d) = d.cluster.glyphs
 printed_item (Space d) = d.cluster.glyphs
+printed_item (Chance d) = []
 printed_item (Gap n) = spaces n
 printed_item Break = []
 printed_item PageEnd = []

@@ -15,6 +15,7 @@ fn push_item<O: Sink>(printer: &mut Printer, item: &Item, out: &mut O)
     match item {
         Item::Glyph(drawn) => printer.push(drawn.cluster.glyphs.bytes(), out),
         Item::Space(drawn) => printer.push(drawn.cluster.glyphs.bytes(), out),
+        Item::Chance(_) => {}
         Item::Gap(cells) => push_spaces(printer, *cells, out),
         Item::Break => {}
         Item::PageEnd => {}

@@ -1,4 +1,5 @@
 pub mod Writing
+pub mod Escapes
 pub mod Bounds
 pub mod ByteKinds
 pub mod Bounded

@@ -1,14 +1,13 @@
 -- Plain bytes of a string, several at once.
-use Rattle.std.proofs.Common.{◌≡◌, ℕ, zero, ◌+◌, ◌-◌, ◌<◌, ◌≤◌, true, false, List, [], ◌∷◌, ◌++◌, length, get_or}
-use Rattle.std.proofs.Common.{take, drop}
-use Rattle.std.proofs.Common.{None, refl, sym, ap, ◌∙◌, append_assoc, take_all, take-take, arith}
-use Rattle.std.specs.Prelude.{slice_range, All}
+use Rattle.std.proofs.Common.{◌≡◌, ℕ, ◌+◌, ◌-◌, ◌<◌, ◌≤◌, true, false, List, [], ◌∷◌, ◌++◌, length, get_or}
+use Rattle.std.proofs.Common.{take, drop, None, refl, sym, ap, subst, ◌∙◌, append_assoc, take_all, arith}
+use Rattle.std.specs.Prelude.{slice_range}
 use Rattle.std.specs.List.{AllByRecursion}
 use Rattle.std.proofs.lemmas.Bool.{and_parts}
-use Rattle.std.proofs.lemmas.List.{append-nil, drop_more, drop-drop, take-append-drop, length-take, length-take-le}
-use Rattle.std.proofs.lemmas.List.{get_or-take, get_or-drop, length-drop}
-use Rattle.std.proofs.Common.{◌⊎◌, ⊎_elim, suc}
-use Rattle.std.proofs.lemmas.List.Elements.{recursion_from_All, All-take, All-get_or}
+use Rattle.std.proofs.lemmas.List.{append-nil, drop_more, take-append-drop, length-take, get_or-take, get_or-drop}
+use Rattle.std.proofs.lemmas.List.Elements.{recursion_from_All, All-from_recursion, All-from_get_or, All-take}
+use Rattle.std.proofs.lemmas.List.Elements.{All-get_or}
+use Rattle.std.proofs.lemmas.List.Folds.{drop_split}
 use Rattle.tx_tree.specs.TextScan.{takes_byte, takes_all}
 use Rattle.tx_scm.specs.Machine.{Open, texting, reads, leads}
 use Rattle.tx_scm.specs.Plain.{IsPlain}
@@ -43,65 +42,54 @@ plain_stops b rest text opens h k =
     step_fails (b ∷ rest) (texting text opens) 0 b (omega arith) refl
     (plain_refused b text opens h.0 h.1 false (sym k) refl)
 
--- ---- the bytes of a run: so many of those before a place, and so many of these are taken
+-- ---- the bytes of a run up to a place, of which n are taken
 
-module _ (bytes text new : List ℕ) (at last count n : ℕ) (opens : List Open) where
+module _ (bytes text new : List ℕ) (at end n : ℕ) (opens : List Open) where
   abbrev pub run : List ℕ
-  run = take count (slice_range bytes at last)
+  run = slice_range bytes at end
 
-  split : at + count ≤ last → drop at bytes ≡ run ++ drop (at + count) bytes
-  split le = sym (take-append-drop count (drop at bytes))
-      ∙ ap (λ x. x ++ drop count (drop at bytes)) (sym (take-take count (last - at) (drop at bytes) (omega arith)))
-      ∙ ap (λ x. run ++ x) (drop-drop count at bytes)
+  all_of : length run ≤ n → take n run ≡ run
+  all_of le = take_all n run le
 
-  all_of : count ≤ n → take n run ≡ run
-  all_of le = take_all n run (omega (arith, length-take count (slice_range bytes at last)))
-
-  pub run_reads : at + count ≤ last → All IsPlain run → new ≡ text ++ take n run → takes_all text (take n run) ≡ true
-      → count ≤ n → reads (texting text opens) (drop at bytes) ≡ reads (texting new opens) (drop (at + count) bytes)
+  pub run_reads : at ≤ end → AllByRecursion IsPlain run → new ≡ text ++ take n run → takes_all text (take n run) ≡ true
+      → length run ≤ n → reads (texting text opens) (drop at bytes) ≡ reads (texting new opens) (drop end bytes)
   run_reads le plain grown taken all =
-      ap (reads (texting text opens)) (split le)
-      ∙ plain_reads run (drop (at + count) bytes) text opens (recursion_from_All IsPlain run plain)
-      (ap (takes_all text) (sym (all_of all)) ∙ taken)
-      ∙ ap (λ t. reads (texting t opens) (drop (at + count) bytes)) (sym (grown ∙ ap (λ x. text ++ x) (all_of all)))
+      ap (reads (texting text opens)) (drop_split bytes at end le)
+      ∙ plain_reads run (drop end bytes) text opens plain (ap (takes_all text) (sym (all_of all)) ∙ taken)
+      ∙ ap (λ t. reads (texting t opens) (drop end bytes)) (sym (grown ∙ ap (λ x. text ++ x) (all_of all)))
 
-  pub run_leads : at + count ≤ last → All IsPlain run → new ≡ text ++ take n run → takes_all text (take n run) ≡ true
-      → count ≤ n → leads (texting text opens) (drop at bytes) ≡ leads (texting new opens) (drop (at + count) bytes)
+  pub run_leads : at ≤ end → AllByRecursion IsPlain run → new ≡ text ++ take n run → takes_all text (take n run) ≡ true
+      → length run ≤ n → leads (texting text opens) (drop at bytes) ≡ leads (texting new opens) (drop end bytes)
   run_leads le plain grown taken all =
-      ap (leads (texting text opens)) (split le)
-      ∙ plain_leads run (drop (at + count) bytes) text opens (recursion_from_All IsPlain run plain)
-      (ap (takes_all text) (sym (all_of all)) ∙ taken)
-      ∙ ap (λ t. leads (texting t opens) (drop (at + count) bytes)) (sym (grown ∙ ap (λ x. text ++ x) (all_of all)))
+      ap (leads (texting text opens)) (drop_split bytes at end le)
+      ∙ plain_leads run (drop end bytes) text opens plain (ap (takes_all text) (sym (all_of all)) ∙ taken)
+      ∙ ap (λ t. leads (texting t opens) (drop end bytes)) (sym (grown ∙ ap (λ x. text ++ x) (all_of all)))
 
-  pub run_stops : at + count ≤ last → All IsPlain run → new ≡ text ++ take n run → takes_all text (take n run) ≡ true
-      → count ≤ length (slice_range bytes at last) → n < count
-      → (n < length run → takes_byte new (get_or run n 0) ≡ false)
-      → reads (texting text opens) (drop at bytes) ≡ None
-  run_stops le plain grown taken long few stops =
-      let lt : n < length run = omega (arith, length-take-le count (slice_range bytes at last) long) in
+  pub run_stops : at ≤ end → AllByRecursion IsPlain run → new ≡ text ++ take n run → takes_all text (take n run) ≡ true
+      → n < length run → takes_byte new (get_or run n 0) ≡ false → reads (texting text opens) (drop at bytes) ≡ None
+  run_stops le plain grown taken lt refused =
+      let all = All-from_recursion IsPlain run plain in
       let b = get_or run n 0 in
-      let rest = drop (n + 1) run ++ drop (at + count) bytes in
+      let rest = drop (n + 1) run ++ drop end bytes in
       let parts : run ≡ take n run ++ (b ∷ drop (n + 1) run) =
       sym (take-append-drop n run) ∙ ap (λ x. take n run ++ x) (drop_more run n 0 lt) in
       ap (reads (texting text opens))
-      (split le ∙ ap (λ x. x ++ drop (at + count) bytes) parts
-      ∙ append_assoc (take n run) (b ∷ drop (n + 1) run) (drop (at + count) bytes))
+      (drop_split bytes at end le ∙ ap (λ x. x ++ drop end bytes) parts
+      ∙ append_assoc (take n run) (b ∷ drop (n + 1) run) (drop end bytes))
       ∙ plain_reads (take n run) (b ∷ rest) text opens
-      (recursion_from_All IsPlain (take n run) (All-take IsPlain n run plain)) taken
+      (recursion_from_All IsPlain (take n run) (All-take IsPlain n run all)) taken
       ∙ ap (λ t. reads (texting t opens) (b ∷ rest)) (sym grown)
-      ∙ plain_stops b rest new opens (All-get_or IsPlain run n 0 lt plain) (stops lt)
+      ∙ plain_stops b rest new opens (All-get_or IsPlain run n 0 lt all) refused
 
--- a run is not empty where a plain byte comes first
-pub some_plain : (bytes : List ℕ) (at count : ℕ) → at < length bytes → IsPlain (get_or bytes at 0)
-    → (count < length (slice_range bytes at (length bytes))
-    → (get_or (slice_range bytes at (length bytes)) count 0 ≡ 34)
-    ⊎ (get_or (slice_range bytes at (length bytes)) count 0 ≡ 92)) → 1 ≤ count
-some_plain bytes at zero lt plain stop =
-    let all = slice_range bytes at (length bytes) in
-    let some : 0 < length all =
-    omega (arith, length-take (length bytes - at) (drop at bytes), length-drop at bytes, lt) in
-    let first : get_or all 0 0 ≡ get_or bytes at 0 =
-    get_or-take (length bytes - at) (drop at bytes) 0 0 (omega (arith, lt)) ∙ get_or-drop at bytes 0 0
-    ∙ ap (λ i. get_or bytes i 0) (omega arith) in
-    absurd (⊎_elim (λ e. plain.0 (sym first ∙ e)) (λ e. plain.1 (sym first ∙ e)) (stop some))
-some_plain bytes at (suc n) lt plain stop = omega arith
+-- ---- the bytes of a run by their places
+
+pub run_plain : (bytes : List ℕ) (at end : ℕ) → ((k : ℕ) → at ≤ k → k < end → IsPlain (get_or bytes k 0))
+    → AllByRecursion IsPlain (slice_range bytes at end)
+run_plain bytes at end plain =
+    recursion_from_All IsPlain (slice_range bytes at end)
+    (All-from_get_or IsPlain (slice_range bytes at end) 0
+    (λ i lt.
+    let within : i < end - at = omega (arith, lt, length-take (end - at) (drop at bytes)) in
+    subst IsPlain
+    (sym (get_or-take (end - at) (drop at bytes) i 0 within ∙ get_or-drop at bytes i 0))
+    (plain (at + i) (omega arith) (omega (arith, within)))))

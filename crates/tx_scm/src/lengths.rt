@@ -6,6 +6,7 @@ ghost use Rattle.tx_scm.specs.Spelling.{escaped};
 ghost use Rattle.tx_scm.specs.Canonical.{scheme_text};
 ghost use Rattle.tx_scm.specs.Counts.{capped};
 
+use tx_scan::count_of;
 use tx_tree::Tree;
 
 fn plus(count: u64, more: u64) -> u64
@@ -14,22 +15,14 @@ fn plus(count: u64, more: u64) -> u64
     count.saturating_add(more)
 }
 
-fn byte_length(byte: u8) -> u64
-    ensures { result ≡ length (escaped byte) }
-{
-    if byte == b'"' || byte == b'\\' { 2 } else { 1 }
-}
-
-// The length of a text as it stands in a string.
-#[tactic(auto, using(std::proofs::lemmas::Grind::common_steps))]
+// The length of a text as it stands in a string: each quote and each backslash takes one byte more.
+#[tactic(auto, using(crate::proofs::Escapes::escaped_length))]
 fn escaped_length(bytes: &[u8]) -> u64
     ensures { result ≡ capped (length (flat_map escaped bytes.now)) }
 {
-    let mut count = 0;
-    for byte in bytes {
-        count = plus(count, byte_length(*byte));
-    }
-    count
+    let quotes = count_of(bytes, b'"') as u64;
+    let backslashes = count_of(bytes, b'\\') as u64;
+    plus(bytes.len() as u64, plus(quotes, backslashes))
 }
 
 // The length of the text of a tree.

@@ -1,5 +1,5 @@
 // The texts of strings.
-ghost use Rattle.std.specs.Prelude.{◌≡◌, ◌≢◌, ◌<◌, ◌≤◌, ◌⊎◌, List, [], length, get_or, take, All, IfOk};
+ghost use Rattle.std.specs.Prelude.{◌≡◌, ◌≢◌, ◌<◌, ◌≤◌, ◌⊎◌, ℕ, List, [], length, get_or, IfOk};
 ghost use Rattle.std.specs.Bool.{OnTrue, OnFalse};
 ghost use Rattle.tx_tree.specs.WideTree.{leaf};
 ghost use Rattle.tx_scm.specs.Machine.{Open, put_tree, texting};
@@ -8,38 +8,52 @@ ghost use Rattle.tx_scm.specs.States.{Goes, GoesBehind};
 
 use std::alloc::Global;
 use tx_base::Memory;
+use tx_scan::{Stops, first_stop};
 use tx_tree::{Text, TextBuilder};
 
-// How many of the bytes stand before the first quote or backslash.
-fn plain_len(bytes: &[u8]) -> usize
-    ensures within { result ≤ length bytes.now }
-    ensures plain { All IsPlain (take result bytes.now) }
-    ensures stop { result < length bytes.now
-        → (get_or bytes.now result 0 ≡ 34) ⊎ (get_or bytes.now result 0 ≡ 92) }
+// Whether the byte stands for itself in a string.
+fn is_plain(byte: u8) -> bool
+    ensures { OnTrue result (IsPlain byte) }
 {
-    for i in 0..bytes.len() {
-        if bytes[i] == b'"' || bytes[i] == b'\\' {
-            return i;
-        }
-    }
-    bytes.len()
+    byte != b'"' && byte != b'\\'
 }
 
-// Adds the bytes of a string from `at` up to a quote or a backslash or the end, and answers the place behind them, or
-// None where no text goes on so.
+// The end of the run of plain bytes that begins at `at`. The search stops also at bytes below 32, which are plain.
+fn plain_end(bytes: &[u8], at: usize) -> usize
+    requires at { at < length bytes.now }
+    requires plain { IsPlain (get_or bytes.now at 0) }
+    ensures later { at < result }
+    ensures there { result ≤ length bytes.now }
+    ensures plain { (k : ℕ) → at ≤ k → k < result → IsPlain (get_or bytes.now k 0) }
+{
+    let Some(stops) = Stops::new(b"\"\\") else {
+        unreachable!()
+    };
+    let mut end = at + 1;
+    while end < bytes.len() && is_plain(bytes[end]) {
+        if bytes[end] < b' ' {
+            end += 1;
+        } else {
+            end = first_stop(bytes, end + 1, &stops);
+        }
+    }
+    end
+}
+
+// Adds the run of plain bytes that begins at `at`, and returns the place after them, or None where no text goes on so.
 fn text_run(text: &mut TextBuilder, bytes: &[u8], at: usize) -> Result<Option<usize>, Memory>
     requires at { at < length bytes.now }
     requires plain { IsPlain (get_or bytes.now at 0) }
     ensures next { (opens : List Open) → IfOk result (λ found.
         Goes bytes.now (texting text.old opens) at found (texting text.new opens)) }
 {
-    let run = &bytes[at..bytes.len()];
-    let count = plain_len(run);
-    let taken = text.extend(&run[..count])?;
-    if taken < count {
+    let end = plain_end(bytes, at);
+    let run = &bytes[at..end];
+    let taken = text.extend(run)?;
+    if taken < run.len() {
         return Ok(None);
     }
-    Ok(Some(at + count))
+    Ok(Some(end))
 }
 
 // Whether a backslash may stand before the byte.

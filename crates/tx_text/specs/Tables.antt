@@ -64,7 +64,7 @@ signs =
     (codes "less", 0x3C) ∷ (codes "gtr", 0x3E) ∷ (codes "leq", 0x2264) ∷ (codes "geq", 0x2265) ∷
     (codes "neq", 0x2260) ∷ (codes "in", 0x2208) ∷ (codes "infty", 0x221E) ∷ (codes "rightarrow", 0x2192) ∷
     (codes "leftarrow", 0x2190) ∷ (codes "times", 0xD7) ∷ (codes "cdot", 0x22C5) ∷ (codes "ldots", 0x2026) ∷
-    (codes "forall", 0x2200) ∷ (codes "exists", 0x2203) ∷ (codes "pm", 0xB1) ∷ []
+    (codes "forall", 0x2200) ∷ (codes "exists", 0x2203) ∷ (codes "pm", 0xB1) ∷ (codes "nbsp", 0xA0) ∷ []
 
 -- the symbols that show as one code point by their name
 abbrev pub named_symbols : List (List ℕ × ℕ)

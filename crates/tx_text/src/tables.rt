@@ -23,7 +23,7 @@ const MIDDLE: [char; 65] = [
 ];
 
 // The symbols that show as one character by their name.
-const NAMED: [(&str, char); 50] = [
+const NAMED: [(&str, char); 51] = [
     ("alpha", '\u{3b1}'),
     ("beta", '\u{3b2}'),
     ("gamma", '\u{3b3}'),
@@ -74,6 +74,7 @@ const NAMED: [(&str, char); 50] = [
     ("forall", '\u{2200}'),
     ("exists", '\u{2203}'),
     ("pm", '\u{b1}'),
+    ("nbsp", '\u{a0}'),
 ];
 
 /// The character that a byte shows as.

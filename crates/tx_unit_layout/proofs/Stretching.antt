@@ -8,7 +8,7 @@ use Rattle.std.proofs.lemmas.List.Elements.{All-from_recursion, recursion_from_A
 use Rattle.tx_tree.specs.declared.TheConstants.{MOST_TEXT}
 use Rattle.tx_origin.specs.Under.{origin_under}
 use Rattle.tx_items.specs.declared.drawing.Item.{Item}
-use Rattle.tx_items.specs.declared.drawing.Item.TheVariants.{Glyph, Space, Gap, Break, PageEnd, Down}
+use Rattle.tx_items.specs.declared.drawing.Item.TheVariants.{Glyph, Space, Chance, Gap, Break, PageEnd, Down}
 use Rattle.tx_items.specs.declared.drawing.Drawn.{Drawn}
 use Rattle.tx_items.specs.declared.drawing.Paragraph.{Paragraph}
 use Rattle.tx_layout.specs.declared.layout.Line.{Line}
@@ -34,6 +34,7 @@ drawn_none d = ap (λ at. record d { look = record d.look { at = at } }) (origin
 item_none : (i : Item) → item_under [] i ≡ i
 item_none (Glyph d) = ap Glyph (drawn_none d)
 item_none (Space d) = ap Space (drawn_none d)
+item_none (Chance d) = ap Chance (drawn_none d)
 item_none (Gap n) = refl
 item_none Break = refl
 item_none PageEnd = refl
@@ -86,6 +87,7 @@ drawn_short base d (Some p) h m is =
 pub item_short : (base : List ℕ) (i : Item) → IsShort (item_under base i) → IsShort i
 item_short base (Glyph d) h = drawn_short base d d.look.at h
 item_short base (Space d) h = drawn_short base d d.look.at h
+item_short base (Chance d) h = drawn_short base d d.look.at h
 item_short base (Gap n) h = h
 item_short base Break h = h
 item_short base PageEnd h = h

@@ -6,7 +6,7 @@ use Rattle.std.specs.Prelude.{if◌then◌else◌}
 use Rattle.std.specs.Option.{option_map}
 use Rattle.std.proofs.lemmas.Option.{get_or_from_slice_get, slice_get-map}
 use Rattle.tx_items.specs.declared.drawing.Item.{Item}
-use Rattle.tx_items.specs.declared.drawing.Item.TheVariants.{Glyph, Space, Gap, Break, PageEnd, Down}
+use Rattle.tx_items.specs.declared.drawing.Item.TheVariants.{Glyph, Space, Chance, Gap, Break, PageEnd, Down}
 use Rattle.tx_layout.specs.declared.layout.Line.{Line}
 use Rattle.tx_layout.specs.Words.{item_cells}
 use Rattle.tx_origin.specs.RelativePlaces.{BasedPlace}
@@ -20,6 +20,7 @@ use Rattle.tx_view.specs.InUnits.{drawn_under}
 cells_under : (b : List ℕ) (i : Item) → item_cells (item_under b i) ≡ item_cells i
 cells_under b (Glyph d) = refl
 cells_under b (Space d) = refl
+cells_under b (Chance d) = refl
 cells_under b (Gap n) = refl
 cells_under b Break = refl
 cells_under b PageEnd = refl
@@ -50,6 +51,7 @@ at_under b l c =
 in_under : (b : List ℕ) (i : Item) → drawn_in (item_under b i) ≡ option_map (drawn_under b) (drawn_in i)
 in_under b (Glyph d) = refl
 in_under b (Space d) = refl
+in_under b (Chance d) = refl
 in_under b (Gap n) = refl
 in_under b Break = refl
 in_under b PageEnd = refl

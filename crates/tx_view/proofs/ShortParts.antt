@@ -5,7 +5,7 @@ use Rattle.std.specs.List.{flat_map, All, AllByRecursion}
 use Rattle.tx_tree.specs.declared.TheConstants.{MOST_TEXT}
 use Rattle.tx_origin.specs.Under.{origin_under}
 use Rattle.tx_items.specs.declared.drawing.Item.{Item}
-use Rattle.tx_items.specs.declared.drawing.Item.TheVariants.{Glyph, Space, Gap, Break, PageEnd, Down}
+use Rattle.tx_items.specs.declared.drawing.Item.TheVariants.{Glyph, Space, Chance, Gap, Break, PageEnd, Down}
 use Rattle.tx_items.specs.declared.drawing.Drawn.{Drawn}
 use Rattle.tx_view_form.specs.Positions.{Mark, mark_by, IsShort}
 use Rattle.tx_part_items.specs.ItemsUnder.{item_under}
@@ -27,6 +27,7 @@ drawn_deeper base d (Some p) h m is =
 item_deeper : (base : List ℕ) (i : Item) → IsShort i → IsShort (item_under base i)
 item_deeper base (Glyph d) h = drawn_deeper base d d.look.at h
 item_deeper base (Space d) h = drawn_deeper base d d.look.at h
+item_deeper base (Chance d) h = drawn_deeper base d d.look.at h
 item_deeper base (Gap n) h = h
 item_deeper base Break h = h
 item_deeper base PageEnd h = h

@@ -12,7 +12,7 @@ use Rattle.tx_tree.specs.declared.places.Place.{Place}
 use Rattle.tx_origin.specs.Under.{origin_under}
 use Rattle.tx_origin.specs.RelativePlaces.{BasedPlace, path_below}
 use Rattle.tx_items.specs.declared.drawing.Item.{Item}
-use Rattle.tx_items.specs.declared.drawing.Item.TheVariants.{Glyph, Space, Gap, Break, PageEnd, Down}
+use Rattle.tx_items.specs.declared.drawing.Item.TheVariants.{Glyph, Space, Chance, Gap, Break, PageEnd, Down}
 use Rattle.tx_items.specs.declared.drawing.Paragraph.{Paragraph}
 use Rattle.tx_text.specs.declared.cutting.Cluster.{Cluster}
 use Rattle.tx_part_items.specs.ItemsUnder.{item_under, paragraph_under}
@@ -127,6 +127,7 @@ some_by b c (Some p) = refl
 some_under : (b : List ℕ) (x : Item) → is_some (mark_of (item_under b x)) ≡ is_some (mark_of x)
 some_under b (Glyph d) = some_by b d.cluster d.look.at
 some_under b (Space d) = some_by b d.cluster d.look.at
+some_under b (Chance d) = some_by b d.cluster d.look.at
 some_under b (Gap n) = refl
 some_under b Break = refl
 some_under b PageEnd = refl

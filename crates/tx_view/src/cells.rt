@@ -11,6 +11,7 @@ pub fn drawn_in(item: &Item) -> Option<&Drawn>
 {
     match item {
         Item::Glyph(drawn) => Some(drawn),
+        Item::Chance(drawn) => Some(drawn),
         Item::Space(drawn) => Some(drawn),
         Item::Gap(_) => None,
         Item::Break => None,

@@ -20,9 +20,10 @@ use Rattle.tx_text.specs.Clusters.{items_behind, items_of, cluster_of, clusters_
 use Rattle.tx_text.specs.Tables.{byte_code, named_code}
 use Rattle.tx_text.proofs.Table.{all_below, all_below-at}
 use Rattle.tx_items.specs.declared.attributes.Attrs.{Attrs}
-use Rattle.tx_items.specs.declared.drawing.Item.TheVariants.{Glyph, Space}
+use Rattle.tx_items.specs.declared.drawing.Drawn.{Drawn}
+use Rattle.tx_items.specs.declared.drawing.Item.TheVariants.{Glyph, Space, Chance}
 use Rattle.tx_items.specs.Looks.{WideLook}
-use Rattle.tx_items.specs.Drawing.{is_space, look_of, item_of, drawn}
+use Rattle.tx_items.specs.Drawing.{is_space, is_chance, look_of, item_of, drawn}
 use Rattle.tx_view_form.specs.Weights.{item_weight, items_weight}
 
 -- ---- clusters of a display text
@@ -199,13 +200,15 @@ label_text (b ∷ bs) h =
 -- ---- what is drawn of a text
 
 one_each : (look : WideLook) (c : Cluster) → item_weight (item_of look c) ≡ 1
-one_each look c = pick (is_space c.glyphs)
+one_each look c = pick (is_space c.glyphs) (is_chance c.glyphs)
   where
-    pick : (b : Bool)
-        → item_weight
-        (cond b (Space (record { cluster = c; look = look })) (Glyph (record { cluster = c; look = look }))) ≡ 1
-    pick true = refl
-    pick false = refl
+    d : Drawn
+    d = record { cluster = c; look = look }
+
+    pick : (b e : Bool) → item_weight (cond b (Space d) (cond e (Chance d) (Glyph d))) ≡ 1
+    pick true e = refl
+    pick false true = refl
+    pick false false = refl
 
 clusters_weight : (look : WideLook) (cs : List Cluster) → items_weight (map (item_of look) cs) ≡ length cs
 clusters_weight look [] = refl

@@ -7,7 +7,7 @@ use Rattle.std.proofs.lemmas.List.Sums.{sum_by-cons, sum_by-append}
 use Rattle.tx_lines.specs.declared.cut.Cut.{Cut}
 use Rattle.tx_lines.specs.Cuts.{Partitions}
 use Rattle.tx_items.specs.declared.drawing.Item.{Item}
-use Rattle.tx_items.specs.declared.drawing.Item.TheVariants.{Glyph, Space, Gap, Break, PageEnd, Down}
+use Rattle.tx_items.specs.declared.drawing.Item.TheVariants.{Glyph, Space, Chance, Gap, Break, PageEnd, Down}
 use Rattle.tx_items.specs.declared.drawing.Paragraph.{Paragraph}
 use Rattle.tx_layout.specs.declared.measures.Frame.{Frame}
 use Rattle.tx_layout.specs.declared.pieces.Span.{Span}
@@ -29,6 +29,7 @@ paragraph_weight p = 1 + items_weight p.items
 some_weight : (x : Item) → 1 ≤ item_weight x
 some_weight (Glyph d) = omega arith
 some_weight (Space d) = omega arith
+some_weight (Chance d) = omega arith
 some_weight (Gap n) = omega arith
 some_weight Break = omega arith
 some_weight PageEnd = omega arith
@@ -98,6 +99,7 @@ same_last (x ∷ (y ∷ ys)) =
 few_behind : (cut : Item) (lines : List Line) → length (behind_cut cut lines) + 1 ≤ length lines + item_weight cut
 few_behind (Glyph d) lines = omega arith
 few_behind (Space d) lines = omega arith
+few_behind (Chance d) lines = omega arith
 few_behind (Gap n) lines = omega arith
 few_behind Break lines = omega arith
 few_behind PageEnd lines = let same = same_last lines in omega arith
@@ -131,6 +133,7 @@ few_lines frame b items lines (then_cut b' is segment cut rest words others part
 capped_weight : (least : ℕ) (x : Item) → item_weight (capped_item least x) ≡ item_weight x
 capped_weight least (Glyph d) = refl
 capped_weight least (Space d) = refl
+capped_weight least (Chance d) = refl
 capped_weight least (Gap n) = refl
 capped_weight least Break = refl
 capped_weight least PageEnd = refl

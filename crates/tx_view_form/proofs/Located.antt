@@ -106,7 +106,7 @@ unit_located document width m u x formed stands h path e =
     record {
       root = start_place document u.tagged.tree path there formed;
       items = items;
-      lines = lines_hold (OnMark (IsLocated document path)) (capped_marked (IsLocated document path)) width
+      lines = lines_hold (OnMark (IsLocated document path)) (λ n m e. absurd cc) (capped_marked (IsLocated document path)) width
           x.paragraphs x.lines h.lines items;
     }
 

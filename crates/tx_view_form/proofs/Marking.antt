@@ -12,10 +12,11 @@ use Rattle.tx_text.specs.Clusters.{items_of, cluster_of, clusters_of}
 use Rattle.tx_text.specs.declared.cutting.Cluster.{Cluster}
 use Rattle.tx_origin.specs.Values.{WideValue}
 use Rattle.tx_items.specs.declared.attributes.Attrs.{Attrs}
+use Rattle.tx_items.specs.declared.drawing.Drawn.{Drawn}
 use Rattle.tx_items.specs.declared.drawing.Item.{Item}
-use Rattle.tx_items.specs.declared.drawing.Item.TheVariants.{Glyph, Space, Gap, Break, PageEnd, Down}
+use Rattle.tx_items.specs.declared.drawing.Item.TheVariants.{Glyph, Space, Chance, Gap, Break, PageEnd, Down}
 use Rattle.tx_items.specs.Looks.{WideLook}
-use Rattle.tx_items.specs.Drawing.{is_space, look_of, item_of, drawn}
+use Rattle.tx_items.specs.Drawing.{is_space, is_chance, look_of, item_of, drawn}
 use Rattle.tx_items.specs.Shows.{shown_paragraphs}
 use Rattle.tx_layout.specs.Words.{capped_item}
 use Rattle.tx_view_form.specs.Positions.{Mark, mark_by, mark_of}
@@ -47,12 +48,15 @@ cluster_marked Q words (Some p) x h m e =
 
 item_marked : (Q : Mark → Type 0) (look : WideLook) (c : Cluster) → ((m : Mark) → mark_by c look.at ≡ Some m → Q m)
     → OnMark Q (item_of look c)
-item_marked Q look c h = pick (is_space c.glyphs)
+item_marked Q look c h = pick (is_space c.glyphs) (is_chance c.glyphs)
   where
-    pick : (b : Bool)
-        → OnMark Q (cond b (Space (record { cluster = c; look = look })) (Glyph (record { cluster = c; look = look })))
-    pick true = h
-    pick false = h
+    d : Drawn
+    d = record { cluster = c; look = look }
+
+    pick : (b e : Bool) → OnMark Q (cond b (Space d) (cond e (Chance d) (Glyph d)))
+    pick true e = h
+    pick false true = h
+    pick false false = h
 
 drawn_marked : (Q : Mark → Type 0) (a : Attrs) (words : List ℕ) (at : Option (List ℕ)) → InText Q words at
     → All (OnMark Q) (drawn a at words)
@@ -81,6 +85,7 @@ shown_marked Q a v h =
 pub capped_marked : (Q : Mark → Type 0) (least : ℕ) (item : Item) → OnMark Q item → OnMark Q (capped_item least item)
 capped_marked Q least (Glyph d) h = h
 capped_marked Q least (Space d) h = h
+capped_marked Q least (Chance d) h = h
 capped_marked Q least (Gap n) h = h
 capped_marked Q least Break h = h
 capped_marked Q least PageEnd h = h

@@ -1,19 +1,20 @@
 -- What holds of each item of paragraphs holds of each item on their lines.
-use Rattle.std.proofs.Common.{◌≡◌, ℕ, ◌-◌, Bool, true, false, not, ◌&&◌, cond, List, [], ◌∷◌, ◌++◌, drop, get_or}
+use Rattle.std.proofs.Common.{◌≡◌, ℕ, zero, suc, ◌+◌, ◌-◌, ◌/◌, ◌%◌, min, Bool, true, false, not, ◌&&◌, cond, List, [], ◌∷◌, ◌++◌, drop, get_or}
 use Rattle.std.proofs.Common.{replicate, sym, subst}
-use Rattle.std.specs.Prelude.{All}
+use Rattle.std.specs.Prelude.{All, slice_range}
 use Rattle.std.proofs.lemmas.List.Elements.{All-nil, All-cons, All-append, All-head, All-tail, All-replicate, All-take}
 use Rattle.std.proofs.lemmas.List.Elements.{All-drop, All-map}
 use Rattle.tx_items.specs.declared.drawing.Item.{Item}
-use Rattle.tx_items.specs.declared.drawing.Item.TheVariants.{Glyph, Space, Gap, Break, PageEnd, Down}
+use Rattle.tx_items.specs.declared.drawing.Item.TheVariants.{Glyph, Space, Chance, Gap, Break, PageEnd, Down}
 use Rattle.tx_items.specs.declared.drawing.Paragraph.{Paragraph}
 use Rattle.tx_lines.specs.declared.cut.Cut.{Cut}
 use Rattle.tx_layout.specs.declared.measures.Frame.{Frame}
 use Rattle.tx_layout.specs.declared.pieces.Span.{Span}
 use Rattle.tx_layout.specs.declared.layout.Line.{Line}
 use Rattle.tx_layout.specs.Frames.{line_frame, least_width}
-use Rattle.tx_layout.specs.Words.{capped_item}
-use Rattle.tx_layout.specs.Segments.{no_span, line_of, lines_of, HasWords}
+use Rattle.tx_layout.specs.Words.{capped_item, cells_across, is_blank_item}
+use Rattle.tx_layout.specs.Segments.{put_in, width_at, no_span, are_none, line_of, lines_of, HasWords}
+use Rattle.tx_layout.specs.Spread.{spaces_among, gap_of, spread_by, spread}
 use Rattle.tx_layout.specs.Shapes.{empty_line, page_ending, with_last, behind_cut, or_empty, HasLines, last_segment}
 use Rattle.tx_layout.specs.Shapes.{then_cut, items_shown}
 use Rattle.tx_view_form.specs.Views.{AreLines}
@@ -29,9 +30,33 @@ pub all_behind : {X : Type 0} (P : X → Type 0) (xs ys : List X) → All P (xs 
 all_behind P [] ys h = h
 all_behind P (x ∷ xs) ys h = all_behind P xs ys (All-tail P x (xs ++ ys) h)
 
-module _ (P : Item → Type 0) where
+module _ (P : Item → Type 0) (of_gap : (n : ℕ) → P (Gap n)) where
   abbrev OnLine : Line → Type 0
   OnLine line = All P line.items
+
+  -- the gaps of a line that is spread
+  gap_holds : (n : ℕ) → All P (gap_of n)
+  gap_holds zero = All-nil P
+  gap_holds (suc n) = All-cons P (Gap (suc n)) [] (of_gap (suc n)) (All-nil P)
+
+  spread_pick : (b : Bool) (each more : ℕ) (x : Item) (xs : List Item) → P x → All P (spread_by each more xs)
+      → All P (spread_by each (more - 1) xs)
+      → All P (cond b (x ∷ (gap_of (each + min more 1) ++ spread_by each (more - 1) xs)) (x ∷ spread_by each more xs))
+  spread_pick true each more x xs h k l =
+      All-cons P x (gap_of (each + min more 1) ++ spread_by each (more - 1) xs) h
+      (All-append P (gap_of (each + min more 1)) (spread_by each (more - 1) xs) (gap_holds (each + min more 1)) l)
+  spread_pick false each more x xs h k l = All-cons P x (spread_by each more xs) h k
+
+  spread_by_holds : (each more : ℕ) (items : List Item) → All P items → All P (spread_by each more items)
+  spread_by_holds each more [] h = h
+  spread_by_holds each more (x ∷ xs) h =
+      spread_pick (is_blank_item x) each more x xs (All-head P x xs h)
+      (spread_by_holds each more xs (All-tail P x xs h)) (spread_by_holds each (more - 1) xs (All-tail P x xs h))
+
+  spread_holds : (free : ℕ) (items : List Item) → All P items → All P (spread free items)
+  spread_holds zero items h = h
+  spread_holds (suc free) items h =
+      spread_by_holds (suc free / spaces_among items) (suc free % spaces_among items) items h
 
   words_hold : (frame : Frame) (b : Bool) (items : List Item) (spans : List Span) (cuts : List Cut) → All P items
       → All OnLine (lines_of frame b items spans cuts)
@@ -39,8 +64,10 @@ module _ (P : Item → Type 0) where
   words_hold frame b items spans (cut ∷ cuts) h =
       let from : ℕ = (get_or spans cut.from no_span).from in
       let to : ℕ = (get_or spans (cut.to - 1) no_span).to in
-      All-cons OnLine (line_of frame b items spans cut) (lines_of frame false items spans cuts)
-      (All-take P (to - from) (drop from items) (All-drop P from items h))
+      let line : List Item = slice_range items from to in
+      All-cons OnLine (line_of frame b (are_none cuts) items spans cut) (lines_of frame false items spans cuts)
+      (spread_holds (put_in frame.side (are_none cuts) (width_at frame b - cells_across line)) line
+      (All-take P (to - from) (drop from items) (All-drop P from items h)))
       (words_hold frame false items spans cuts h)
 
   segment_holds : (frame : Frame) (b : Bool) (items : List Item) (lines : List Line) → HasWords frame b items lines
@@ -70,6 +97,7 @@ module _ (P : Item → Type 0) where
   cut_holds : (cut : Item) (lines : List Line) → All OnLine lines → All OnLine (behind_cut cut lines)
   cut_holds (Glyph d) lines h = h
   cut_holds (Space d) lines h = h
+  cut_holds (Chance d) lines h = h
   cut_holds (Gap n) lines h = h
   cut_holds Break lines h = h
   cut_holds PageEnd lines h = last_holds lines h

@@ -3,7 +3,7 @@ use Rattle.std.specs.Prelude.{ℕ, ◌+◌, ◌-◌, nat_lt, nat_le, List, [], �
 use Rattle.std.specs.Prelude.{slice_get, if◌then◌else◌}
 use Rattle.tx_items.specs.declared.drawing.Drawn.{Drawn}
 use Rattle.tx_items.specs.declared.drawing.Item.{Item}
-use Rattle.tx_items.specs.declared.drawing.Item.TheVariants.{Glyph, Space, Gap, Break, PageEnd, Down}
+use Rattle.tx_items.specs.declared.drawing.Item.TheVariants.{Glyph, Space, Chance, Gap, Break, PageEnd, Down}
 use Rattle.tx_layout.specs.declared.layout.Line.{Line}
 use Rattle.tx_layout.specs.Words.{item_cells}
 use Rattle.tx_view_form.specs.Views.{UnitView}
@@ -30,6 +30,7 @@ item_at line c = if nat_lt c line.indent then None else slice_get line.items (it
 abbrev pub drawn_in : Item → Option Drawn
 drawn_in (Glyph d) = Some d
 drawn_in (Space d) = Some d
+drawn_in (Chance d) = Some d
 drawn_in (Gap n) = None
 drawn_in Break = None
 drawn_in PageEnd = None

@@ -14,6 +14,7 @@ loop-from-preserved c =
             within = piece.within;
             blank = so_far.blank;
             solid = piece.solid;
+            unbroken = piece.unbroken;
             narrow = piece.narrow;
             greatest = piece.greatest;
           })

@@ -9,6 +9,6 @@ returns-clause-lines c =
 
 pub returns-clause-within : goal.returns-clause-within
 returns-clause-within c =
-    own_within c.args.frame c.args.is_first c.args.is_last c.args.items.now c.args.start c.args.end
+    own_within c.args.frame c.requires.frame c.args.is_first c.args.is_last c.args.items.now c.args.start c.args.end
     c.in_ok-rows.rows.items c.or_empty.new.rows.items c.requires.onward c.requires.there c.in_ok-rows.ensures
     c.in_ok-or_empty.ensures

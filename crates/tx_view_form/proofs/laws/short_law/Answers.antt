@@ -10,4 +10,4 @@ pub returns-clause-items : goal.returns-clause-items
 returns-clause-items c = short_items
 
 pub returns-clause-lines : goal.returns-clause-lines
-returns-clause-lines c = λ width ps lines. lines_hold IsShort (capped_marked (λ m. m.stop ≤ MOST_TEXT)) width ps lines
+returns-clause-lines c = λ width ps lines. lines_hold IsShort (λ n m e. absurd cc) (capped_marked (λ m. m.stop ≤ MOST_TEXT)) width ps lines
