@@ -26,9 +26,9 @@ fn put_char(shown: char, into: &mut [u8]) -> usize
 // Puts a symbol's display text at the start of a buffer, and answers how many bytes it takes.
 fn put_symbol(name: &[u8], into: &mut [u8]) -> usize
     requires name { IsName name.now }
-    requires room { 50 ≤ length into.old }
+    requires room { 257 ≤ length into.old }
     ensures count { result ≡ length (item_text (Symbol name.now)) }
-    ensures short { result ≤ 50 }
+    ensures short { result ≤ 257 }
     ensures put { into.new ≡ item_text (Symbol name.now) ++ drop result into.old }
 {
     match symbol_char(name) {
@@ -58,7 +58,7 @@ fn name_of(bytes: &[u8]) -> &[u8]
 }
 
 /// Puts the display text of the item that begins at a cut of a text at the start of a buffer, in UTF-8, and answers
-/// the number of its bytes, at most 50, and the cut behind the item. None comes exactly at the end of the text, and
+/// the number of its bytes, at most 257, and the cut behind the item. None comes exactly at the end of the text, and
 /// the buffer is then as before. It takes no memory.
 pub fn show_item(text: &Text, at: usize, into: &mut [u8]) -> Option<(usize, usize)>
     requires cut { IsCut text.now at }
@@ -68,7 +68,7 @@ pub fn show_item(text: &Text, at: usize, into: &mut [u8]) -> Option<(usize, usiz
     ensures shown { IfSome result (λ (count, next). into.new
         ≡ display_text (item_beginning_at text.now at) ++ drop count into.old) }
     ensures count { IfSome result (λ (count, next). count ≡ length (display_text (item_beginning_at text.now at))) }
-    ensures short { IfSome result (λ (count, next). count ≤ 50) }
+    ensures short { IfSome result (λ (count, next). count ≤ 257) }
     ensures next { IfSome result (λ (count, next). next
         ≡ at + length (flat_map item_bytes (item_beginning_at text.now at))) }
     ensures further { IfSome result (λ (count, next). at < next) }
