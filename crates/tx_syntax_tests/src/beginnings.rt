@@ -1,9 +1,24 @@
 // Each beginning of some bytes that spell a tree.
 
-use crate::tables::{first_wrong_front, refusal};
+use crate::readers::refusal;
 use std::alloc::Global;
 use tx_doc::Form;
 use tx_tree::ReadFault;
+
+// The first length of a front that isn't refused as is wanted: those of these lengths are trees, the others unfinished.
+fn first_wrong_front(alloc: Global, form: Form, bytes: &[u8], whole: &[usize]) -> Option<usize> {
+    for length in 0..bytes.len() {
+        let want = if whole.contains(&length) {
+            None
+        } else {
+            Some(ReadFault::Unclosed(length))
+        };
+        if refusal(alloc, form, &bytes[..length]) != want {
+            return Some(length);
+        }
+    }
+    None
+}
 
 // 53 bytes, of which the last two are white.
 const SCHEME: &[u8] = b" ( f\n\"<alpha>\\\"\\\\x\" (g-1(h) \"\" ( i\t\"<\\\"b>\" ) ) \"y\")\n ";

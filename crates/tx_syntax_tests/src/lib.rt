@@ -1,34 +1,25 @@
-//! Tests of the readers and writers of both syntaxes: what is read and written on both sides of each rule, the places
-//! of faults, trees at the limits, and random blocks.
+//! Tests of the lowest crates and of the readers of both syntaxes, as far as no row of `tx_rows` shows them: counts,
+//! lines of pieces, byte search, what is outside in memory, texts, labels and trees; each beginning of a tree, all short
+//! strings, and the places of faults beside a slow search.
 #![tactic(auto)]
 
 #[cfg(test)]
 mod beginnings;
 #[cfg(test)]
-mod blocks;
+mod counts;
 #[cfg(test)]
 mod fronts;
 #[cfg(test)]
-mod scheme_faults;
+mod lines;
 #[cfg(test)]
-mod scheme_limits;
-#[cfg(test)]
-mod scheme_trees;
+mod readers;
 #[cfg(test)]
 mod short_strings;
 #[cfg(test)]
-mod tables;
+mod sinks;
 #[cfg(test)]
-mod tm_content;
+mod stops;
 #[cfg(test)]
-mod tm_faults;
+mod stores;
 #[cfg(test)]
-mod tm_files;
-#[cfg(test)]
-mod tm_limits;
-#[cfg(test)]
-mod tm_runs;
-#[cfg(test)]
-mod tm_tags;
-#[cfg(test)]
-mod tm_texts;
+mod trees;

@@ -1,6 +1,6 @@
 // All strings of up to five of six bytes, read in Scheme syntax and compared with the plain recogniser.
 
-use crate::tables::{read, refusal};
+use crate::readers::{read, refusal};
 use std::alloc::{AllocError, Global};
 use std::test::Fail;
 use tx_base::Memory;

@@ -1,4 +1,5 @@
-//! Tests of what documents show, of values, of environments and of primitives: tables row by row.
+//! Tests of values, as far as no row of `tx_rows` shows them: environments, origins and places, and clusters of the
+//! longest texts; and of the helper of tables, on which tests of other crates rest.
 #![tactic(auto)]
 
 #[cfg(test)]
@@ -8,4 +9,4 @@ mod environments;
 #[cfg(test)]
 mod origins;
 #[cfg(test)]
-mod primitives;
+mod rows;

@@ -1,4 +1,0 @@
-use Rattle.tx_base_tests.proofs.trees.nodes_have_their_limits.Given as goal
-
-abbrev pub ghosts-past_limits : goal.ghosts-past_limits
-ghosts-past_limits g a = record { name = a.blank.name; parts = a.blank.parts }
