@@ -1,5 +1,6 @@
 //! Tests of calls below the session that no command shows: edits of several modifications, stops, paths, bodies,
-//! buffers, generated documents, and words with spaces. What commands show are rows of `tx_rows`.
+//! buffers, generated documents, words with spaces, and trees that are evaluated by their parts. What commands show are
+//! rows of `tx_rows`.
 #![tactic(auto)]
 
 #[cfg(test)]
@@ -12,5 +13,7 @@ mod generated;
 mod paths;
 #[cfg(test)]
 mod stops;
+#[cfg(test)]
+mod walks;
 #[cfg(test)]
 mod words;

@@ -5,16 +5,50 @@ ghost use Rattle.std.specs.Str.{bytes_eq};
 ghost use Rattle.tx_walk.specs.Held.{IsSound, AreSound};
 ghost use Rattle.tx_walk.specs.Walked.{IsTidy, kept_in, stores_in, paths_of};
 
-use crate::outcomes::{evaluated, same};
 use std::alloc::Global;
 use std::marker::Brand;
 use std::sync::ledger::{Blank, Ledger};
 use tx_base::Steps;
 use tx_env::Env;
-use tx_exec::Outcome;
+use tx_exec::{Outcome, eval};
+use tx_origin::{Ip, Tagged};
 use tx_samples::{Row, first_untrue, tree_of};
 use tx_tree::{Text, Tree};
 use tx_walk::{Part, Walked, kept_law, walk, walked_law};
+
+// What the whole tree comes to.
+fn evaluated<L: Ledger>(
+    alloc: Global,
+    t: &Tree,
+    env: &mut Env,
+    allowance: u64,
+    steps: &mut Steps<L>,
+) -> Option<Outcome>
+    requires { allowance ≤ 1000000 }
+{
+    let tagged = Tagged {
+        tree: t.share().ok()?,
+        at: Some(Ip::root()),
+    };
+    eval(alloc, &tagged, env, allowance, steps).ok()
+}
+
+// Whether both are done, with one value, cost and height.
+fn same<L: Ledger>(
+    alloc: Global,
+    one: &Outcome,
+    other: &Outcome,
+    steps: &mut Steps<L>,
+) -> Option<bool> {
+    match (one, other) {
+        (Outcome::Done(a), Outcome::Done(b)) => {
+            let value = a.value.plain(alloc, steps).ok()?;
+            let fresh = b.value.plain(alloc, steps).ok()?;
+            Some(value.same(&fresh) && a.cost == b.cost && a.height == b.height)
+        }
+        _ => Some(false),
+    }
+}
 
 // How many steps are allowed.
 const ALLOWANCE: u64 = 1_000_000;

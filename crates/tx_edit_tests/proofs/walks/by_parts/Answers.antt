@@ -2,8 +2,8 @@ use Rattle.std.specs.Prelude.{[]}
 use Rattle.tx_exec.specs.Outcomes.{wide_outcome}
 use Rattle.tx_parts.specs.Opening.{no_shells}
 use Rattle.tx_walk.specs.Walked.{stores_in}
-use Rattle.tx_bridge_tests.proofs.Answered.{answered_sound, answered_distinct}
-use Rattle.tx_bridge_tests.proofs.walks.by_parts.Goals as goal
+use Rattle.tx_edit_tests.proofs.Answered.{answered_sound, answered_distinct}
+use Rattle.tx_edit_tests.proofs.walks.by_parts.Goals as goal
 
 pub walk-requires-clause-sound : goal.walk-requires-clause-sound
 walk-requires-clause-sound g c = c.kept_law.ensures.alone _ _ (c.kept_law.ensures.nothing _)
