@@ -1,5 +1,5 @@
-//! Tests of kept evaluations. Of units that are evaluated by their parts: that the whole is what evaluating it gives,
-//! also where an opener opens tags and with a spare. Of refreshes with an opener: what they cost, also behind edits,
+//! Tests of kept evaluations. Of units that are evaluated by their parts, where an opener opens tags: that the whole is
+//! what evaluating it gives. Of refreshes with an opener: what they cost, also behind edits,
 //! and which parts they leave. Of edits: which units they reach and which parts they renew, also where parts go to
 //! other paragraphs, that outcomes are those from nothing, also behind a start and with a spare, and which places edits
 //! are found to leave as they are. And what names have behind all units.
@@ -31,7 +31,5 @@ mod shell_edits;
 mod shells;
 #[cfg(test)]
 mod starts;
-#[cfg(test)]
-mod walks;
 #[cfg(test)]
 mod ways;

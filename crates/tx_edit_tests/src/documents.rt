@@ -38,27 +38,10 @@ fn a_buffer_keeps_its_name_and_tree(rt: HostRuntime) {
     assert_eq!(rt; bytes_of_none(rt.alloc()), 0);
 }
 
-// Names, and the forms of the files that they are of.
+// Names that stand in no command line, and the forms of the files that they are of.
 const FORMS: &[(&[u8], Form)] = &[
-    (b"a.scm", Form::Scheme),
-    (b"a.stm", Form::Scheme),
-    (b"a.tm", Form::Tm),
     (b"", Form::Tm),
-    (b".scm", Form::Scheme),
-    (b".stm", Form::Scheme),
-    (b"scm", Form::Tm),
-    (b"stm", Form::Tm),
-    (b"ascm", Form::Tm),
-    (b"a.tm.scm", Form::Scheme),
-    (b"a.scm.tm", Form::Tm),
-    (b"a.scm.", Form::Tm),
     (b"a.scm ", Form::Tm),
-    (b"a.scmx", Form::Tm),
-    (b"a.SCM", Form::Tm),
-    (b"a.Stm", Form::Tm),
-    (b"a.sc", Form::Tm),
-    (b"a.ts", Form::Tm),
-    (b"b.scm/a", Form::Tm),
     (b"b/\xff.stm", Form::Scheme),
 ];
 

@@ -1,34 +1,19 @@
-//! Tests of modifications, paths and places, and of the state of an editing session: tables, each asked for its first
-//! wrong row, limits, undo to its end, random modifications and a random session.
+//! Tests of calls below the session that no command shows: edits of several modifications, stops, paths, bodies,
+//! buffers, generated documents, words with spaces, and trees that are evaluated by their parts. What commands show are
+//! rows of `tx_rows`.
 #![tactic(auto)]
 
 #[cfg(test)]
-mod changes;
-#[cfg(test)]
 mod documents;
 #[cfg(test)]
-mod inverses;
+mod edits;
 #[cfg(test)]
-mod keys;
+mod generated;
 #[cfg(test)]
-mod limits;
+mod paths;
 #[cfg(test)]
-mod lists;
+mod stops;
 #[cfg(test)]
-mod machine;
+mod walks;
 #[cfg(test)]
-mod random;
-#[cfg(test)]
-mod replies;
-#[cfg(test)]
-mod rows;
-#[cfg(test)]
-mod samples;
-#[cfg(test)]
-mod sessions;
-#[cfg(test)]
-mod trials;
-#[cfg(test)]
-mod undoing;
-#[cfg(test)]
-mod ways;
+mod words;

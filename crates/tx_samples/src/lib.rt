@@ -1,4 +1,4 @@
-//! What tests are made from: tables of rows, trees and buffers in words, and numbers in replies.
+//! What tests are made from: tables of rows, and trees and buffers in words.
 #![tactic(auto)]
 
 mod rows;
@@ -48,15 +48,4 @@ pub fn told_buffers<L: Ledger>(
         buffers.push(buffer_of(alloc, name, words, steps)?).ok()?;
     }
     Some(buffers)
-}
-
-/// The number in a reply that is one line, `work N`. None where it is none.
-pub fn told_work(reply: &[u8]) -> Option<u64> {
-    let (word, rest) = str::from_utf8(reply).ok()?.split_once(' ')?;
-    let (number, _) = rest.split_once('\n')?;
-    if word == "work" {
-        number.parse::<u64>().ok()
-    } else {
-        None
-    }
 }

@@ -1,27 +1,12 @@
-//! Tests of runs and sessions over memory. Each test is a table and asks for its first wrong row.
+//! Tests of runs over files, an input and an output in memory that fail at a call. Runs without faults are rows of
+//! `tx_rows`.
 #![tactic(auto)]
 
 #[cfg(test)]
-mod devices;
+mod ends;
 #[cfg(test)]
-mod edits;
-#[cfg(test)]
-mod faults;
-#[cfg(test)]
-mod greatest;
-#[cfg(test)]
-mod limits;
-#[cfg(test)]
-mod lines;
+mod fronts;
 #[cfg(test)]
 mod outside;
 #[cfg(test)]
-mod sample;
-#[cfg(test)]
-mod saves;
-#[cfg(test)]
-mod saving;
-#[cfg(test)]
-mod statuses;
-#[cfg(test)]
-mod styles;
+mod slow;

@@ -1,37 +1,31 @@
-// What a run has outside itself: files, an input and an output in memory; and whether it ends as is wanted.
-ghost use Rattle.std.specs.Prelude.{◌≡◌};
+// What a run has outside itself: files, an input and an output in memory; and what came of the run.
 ghost use Rattle.tx_outside.specs.InMemory.{seen_source};
 
 use std::alloc::{AllocError, Global};
-use std::sync::ledger::{Blank, Ledger};
+use std::sync::ledger::Ledger;
 use tx_base::Steps;
-use tx_outside::{Failed, MemSink, MemSource, MemStore, Source, Store, StoredFile};
+use tx_outside::{Failed, MemSink, MemSource, MemStore, Source, Store};
 use tx_session::{Status, run};
 
-// How a run is set up: a file of the store and the others, the words between bars, the script, the call of the store,
-// of the input and of the sink that fails, if one does, the room of the sink, and whether the input gives one byte a
-// call.
+// How a run is set up: the files of the store, the words between bars, the script, the call of the store, of the input
+// and of the sink that fails, if one does, the room of the sink, and whether the input gives one byte a call.
 #[derive(Clone, Copy)]
-pub struct Setup<'a> {
-    pub name: &'a str,
-    pub bytes: &'a [u8],
-    pub others: &'static [(&'static str, &'static str)],
-    pub words: &'a str,
-    pub script: &'a [u8],
-    pub store_failing: Option<u64>,
-    pub input_failing: Option<u64>,
-    pub sink_failing: Option<u64>,
-    pub room: usize,
-    pub slowly: bool,
+pub(crate) struct Setup {
+    pub(crate) files: &'static [(&'static str, &'static str)],
+    pub(crate) words: &'static str,
+    pub(crate) script: &'static str,
+    pub(crate) store_failing: Option<u64>,
+    pub(crate) input_failing: Option<u64>,
+    pub(crate) sink_failing: Option<u64>,
+    pub(crate) room: usize,
+    pub(crate) slowly: bool,
 }
 
 // The file `a.scm` with the tree `(f)`, and no fault.
-pub const OF_A: Setup<'static> = Setup {
-    name: "a.scm",
-    bytes: b"(f )",
-    others: &[],
+pub(crate) const OF_A: Setup = Setup {
+    files: &[("a.scm", "(f )")],
     words: "tmx|a.scm",
-    script: b"",
+    script: "",
     store_failing: None,
     input_failing: None,
     sink_failing: None,
@@ -41,9 +35,9 @@ pub const OF_A: Setup<'static> = Setup {
 
 // A source that gives one byte a call, and counts the calls.
 #[derive(Drop)]
-pub struct SlowSource {
+struct SlowSource {
     source: MemSource,
-    pub reads: usize,
+    reads: usize,
 }
 
 impl Source for SlowSource {
@@ -62,11 +56,21 @@ impl Source for SlowSource {
 
 // What a run is given.
 #[derive(Drop)]
-pub struct Outside {
+struct Outside {
     words: Vec<String>,
-    pub store: MemStore,
-    pub input: SlowSource,
-    pub out: MemSink,
+    store: MemStore,
+    input: SlowSource,
+    out: MemSink,
+}
+
+// What came of a run: its status, what it wrote, how often the input was read a byte a call, and what a file then
+// holds, or `none`.
+#[derive(Drop)]
+pub(crate) struct Ended {
+    pub(crate) status: Status,
+    pub(crate) written: Vec<u8>,
+    pub(crate) reads: usize,
+    pub(crate) file: Vec<u8>,
 }
 
 fn words_of(alloc: Global, words: &str) -> Result<Vec<String>, AllocError> {
@@ -77,65 +81,59 @@ fn words_of(alloc: Global, words: &str) -> Result<Vec<String>, AllocError> {
     Ok(owned)
 }
 
-// The list of the call that fails, if one does.
-fn failing_calls(alloc: Global, failing: Option<u64>) -> Result<Vec<u64>, AllocError> {
+// The list of the call that fails, if one does, where others are made first.
+fn failing_calls(
+    alloc: Global,
+    others: usize,
+    failing: Option<u64>,
+) -> Result<Vec<u64>, AllocError> {
     let mut calls = Vec::new(alloc);
     if let Some(call) = failing {
-        calls.push(call)?;
+        calls.push(call.saturating_add(others as u64))?;
     }
     Ok(calls)
 }
 
-// The call that fails, where others are made first.
-fn behind(others: usize, failing: Option<u64>) -> Option<u64> {
-    match failing {
-        Some(call) => Some(call.saturating_add(others as u64)),
-        None => None,
-    }
-}
-
-fn store_of(alloc: Global, setup: &Setup) -> Result<MemStore, AllocError> {
-    let name = Vec::from_slice(alloc, setup.name.as_bytes())?;
-    let file = StoredFile::new(name, Vec::from_slice(alloc, setup.bytes)?);
-    let files = vec![in alloc; file]?;
-    let failing = behind(setup.others.len(), setup.store_failing);
-    let mut store = MemStore::new(files, failing_calls(alloc, failing)?);
-    for (name, bytes) in setup.others {
-        if store.save(name.as_bytes(), bytes.as_bytes()).is_err() {
-            return Err(AllocError);
-        }
-    }
-    Ok(store)
-}
-
-fn source_of(alloc: Global, setup: &Setup) -> Result<SlowSource, AllocError> {
-    let failing = failing_calls(alloc, setup.input_failing)?;
-    let source = MemSource::new(Vec::from_slice(alloc, setup.script)?, failing);
-    Ok(SlowSource { source, reads: 0 })
-}
-
-pub(crate) fn sink_of(
-    alloc: Global,
-    room: usize,
-    failing: Option<u64>,
-) -> Result<MemSink, AllocError> {
-    match MemSink::new(alloc, room, failing_calls(alloc, failing)?) {
+fn sink_of(alloc: Global, setup: &Setup) -> Result<MemSink, AllocError> {
+    let calls = failing_calls(alloc, 0, setup.sink_failing)?;
+    match MemSink::new(alloc, setup.room, calls) {
         Ok(sink) => Ok(sink),
         Err(_) => Err(AllocError),
     }
 }
 
-pub(crate) fn outside_of(alloc: Global, setup: &Setup) -> Result<Outside, AllocError> {
+// What the run is given, but for the files.
+fn outside_of(alloc: Global, setup: &Setup) -> Result<Outside, AllocError> {
+    let words = words_of(alloc, setup.words)?;
+    let script = Vec::from_slice(alloc, setup.script.as_bytes())?;
+    let loads = failing_calls(alloc, setup.files.len(), setup.store_failing)?;
+    let reads = failing_calls(alloc, 0, setup.input_failing)?;
+    let out = sink_of(alloc, setup)?;
     Ok(Outside {
-        words: words_of(alloc, setup.words)?,
-        store: store_of(alloc, setup)?,
-        input: source_of(alloc, setup)?,
-        out: sink_of(alloc, setup.room, setup.sink_failing)?,
+        words,
+        store: MemStore::new(Vec::new(alloc), loads),
+        input: SlowSource {
+            source: MemSource::new(script, reads),
+            reads: 0,
+        },
+        out,
     })
 }
 
+fn put_files(
+    store: &mut MemStore,
+    files: &[(&'static str, &'static str)],
+) -> Result<(), AllocError> {
+    for (name, bytes) in files {
+        if store.save(name.as_bytes(), bytes.as_bytes()).is_err() {
+            return Err(AllocError);
+        }
+    }
+    Ok(())
+}
+
 // The status of the run.
-pub(crate) fn ended<L: Ledger>(
+fn status_of<L: Ledger>(
     alloc: Global,
     outside: &mut Outside,
     slowly: bool,
@@ -154,62 +152,40 @@ pub(crate) fn ended<L: Ledger>(
     }
 }
 
-// Whether the run ends with this status, has written this text, and this file then holds these bytes.
-pub(crate) fn ends_with<L: Ledger>(
+fn came_of(
     alloc: Global,
-    setup: &Setup,
-    wanted: (Status, &[u8]),
-    file: (&str, &[u8]),
-    steps: &mut Steps<L>,
-) -> Result<bool, AllocError> {
-    let mut outside = outside_of(alloc, setup)?;
-    let status = ended(alloc, &mut outside, setup.slowly, steps);
-    Ok(
-        status == wanted.0
-            && outside.out.written() == wanted.1
-            && outside.store.file(file.0.as_bytes()).unwrap_or(b"none") == file.1,
-    )
-}
-
-// Whether the run ends with this status and has written this text.
-pub(crate) fn ends<L: Ledger>(
-    alloc: Global,
-    setup: &Setup,
     status: Status,
-    text: &str,
-    steps: &mut Steps<L>,
-) -> Result<bool, AllocError> {
-    ends_with(
-        alloc,
-        setup,
-        (status, text.as_bytes()),
-        ("", b"none"),
-        steps,
-    )
+    outside: &Outside,
+    file: &str,
+) -> Result<Ended, AllocError> {
+    let held = outside.store.file(file.as_bytes()).unwrap_or(b"none");
+    Ok(Ended {
+        status,
+        written: Vec::from_slice(alloc, outside.out.written())?,
+        reads: outside.input.reads,
+        file: Vec::from_slice(alloc, held)?,
+    })
 }
 
-// The first row whose script, over the file `a.scm` with this tree, doesn't end well with this text.
-pub(crate) fn first_wrong_reply<L: Ledger>(
+fn ran_in<L: Ledger>(
     alloc: Global,
-    rows: &[(&'static str, &'static str, &'static str)],
-    slowly: bool,
-    blank: Blank,
-) -> Result<Option<usize>, AllocError>
-    requires name { blank.name ≡ L.name }
-    requires parts { blank.parts ≡ L.parts }
-    requires whole { blank.parts ≡ 1 }
-{
-    let mut steps = Steps::<L>::new(blank);
-    for (number, row) in rows.iter().enumerate() {
-        let setup = Setup {
-            bytes: row.0.as_bytes(),
-            script: row.1.as_bytes(),
-            slowly,
-            ..OF_A
-        };
-        if !ends(alloc, &setup, Status::Ok, row.2, &mut steps)? {
-            return Ok(Some(number));
-        }
-    }
-    Ok(None)
+    setup: &Setup,
+    outside: &mut Outside,
+    file: &str,
+    steps: &mut Steps<L>,
+) -> Result<Ended, AllocError> {
+    put_files(&mut outside.store, setup.files)?;
+    let status = status_of(alloc, outside, setup.slowly, steps);
+    came_of(alloc, status, outside, file)
+}
+
+// What comes of the run, and what this file then holds.
+pub(crate) fn ran<L: Ledger>(
+    alloc: Global,
+    setup: &Setup,
+    file: &str,
+    steps: &mut Steps<L>,
+) -> Result<Ended, AllocError> {
+    let mut outside = outside_of(alloc, setup)?;
+    ran_in(alloc, setup, &mut outside, file, steps)
 }

@@ -1,4 +1,0 @@
-use Rattle.tx_bridge_tests.proofs.walks.the_whole_is_what_its_parts_come_to.Given as goal
-
-abbrev pub ghosts-first_untrue : goal.ghosts-first_untrue
-ghosts-first_untrue g a = record { name = a.blank.name; parts = a.blank.parts }

@@ -1,4 +1,0 @@
-use Rattle.tx_open_tests.proofs.rows.faulty_words_open_nothing.Given as goal
-
-abbrev pub ghosts-first_wrong : goal.ghosts-first_wrong
-ghosts-first_wrong g a = record { name = a.blank.name; parts = a.blank.parts }

@@ -1,4 +1,0 @@
-use Rattle.tx_session_tests.proofs.edits.edits_are_undone_and_redone.Given as goal
-
-abbrev pub ghosts-first_wrong_reply : goal.ghosts-first_wrong_reply
-ghosts-first_wrong_reply g a = record { name = a.blank.name; parts = a.blank.parts }

@@ -1,4 +1,0 @@
-use Rattle.tx_session_tests.proofs.greatest.the_biggest_trees_are_changed.Given as goal
-
-abbrev pub ghosts-first_wrong_run : goal.ghosts-first_wrong_run
-ghosts-first_wrong_run g a = record { name = a.blank.name; parts = a.blank.parts }

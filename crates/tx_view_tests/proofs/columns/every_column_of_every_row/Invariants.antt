@@ -1,4 +1,0 @@
-use Rattle.tx_view_tests.proofs.columns.every_column_of_every_row.Given as goal
-
-abbrev pub ghosts-first_untrue : goal.ghosts-first_untrue
-ghosts-first_untrue g a = record { name = a.blank.name; parts = a.blank.parts }
