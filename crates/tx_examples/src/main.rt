@@ -1,0 +1,149 @@
+//! Examples of use: one function for each library that is of use alone. `main` prints what each one returns, and the
+//! READMEs of these libraries quote the functions.
+#![tactic(auto)]
+
+ghost use Rattle.std.specs.Prelude.{◌≡◌};
+
+use std::alloc::Global;
+use std::marker::Brand;
+use std::process::ExitCode;
+use std::sync::ledger::{Blank, Ledger};
+use tx_base::Steps;
+use tx_doc::{Buffer, Name};
+use tx_env::Env;
+use tx_exec::{Outcome, eval};
+use tx_mod::{Mod, apply_and_inverse};
+use tx_origin::Tagged;
+use tx_outside::{MemSink, MemStore};
+use tx_session::Session;
+use tx_tree::{Label, Path, Text, Tree, text_of};
+use tx_view::View;
+
+// `tx_tree`: makes the tree `(em "two")`, and looks at it.
+fn made<L: Ledger>(alloc: Global, steps: &mut Steps<L>) -> Option<String> {
+    let two = Tree::leaf(alloc, Text::new(alloc, b"two").ok()?).ok()?;
+    let em = Label::new(alloc, b"em").ok()?;
+    let tree = Tree::node(alloc, em, vec![in alloc; two].ok()?, steps).ok()?;
+    let path = Path::parse(alloc, b"/0").ok()?;
+    let two = tree.at(&path)?.size();
+    let (size, depth) = (tree.size(), tree.depth());
+    format!(in alloc; "size {size}, depth {depth}; the subtree at {path} has size {two}").ok()
+}
+
+// `tx_scm`: reads a tree in Scheme syntax, and writes its canonical text.
+fn read_scheme<L: Ledger>(alloc: Global, steps: &mut Steps<L>) -> Option<String> {
+    let tree = tx_scm::read(alloc, b"( document\"one\" (em \"two\") )", steps).ok()?;
+    let mut text = Vec::new(alloc);
+    tx_scm::write(&tree, &mut text).ok()?;
+    String::from_utf8(text).ok()
+}
+
+// `tx_tm_read`: reads a TM document, and gives the place of a fault in another one.
+fn read_tm<L: Ledger>(alloc: Global, steps: &mut Steps<L>) -> Option<String> {
+    let tree = tx_tm_read::read(alloc, b"one <em|two>", steps).ok()?;
+    let mut text = Vec::new(alloc);
+    tx_scm::write(&tree, &mut text).ok()?;
+    let fault = tx_tm_read::read(alloc, b"<em|two", steps).err()?;
+    format!(in alloc; "{}; {fault}", str::from_utf8(&text).ok()?).ok()
+}
+
+// `tx_mod`: changes a tree, and takes the change back by its inverse.
+fn changed<L: Ledger>(alloc: Global, steps: &mut Steps<L>) -> Option<String> {
+    let before = tx_scm::read(alloc, b"(document \"one\" \"two\")", steps).ok()?;
+    let words = Tree::leaf(alloc, text_of(alloc, b"twenty-").ok()?).ok()?;
+    let insert = Mod::Insert(Path::parse(alloc, b"/1").ok()?, 0, words);
+    let (after, inverse) = apply_and_inverse(alloc, &before, &insert, steps).ok()?;
+    let (back, _) = apply_and_inverse(alloc, &after, &inverse, steps).ok()?;
+    let mut text = Vec::new(alloc);
+    tx_scm::write(&after, &mut text).ok()?;
+    let same = back.same(&before);
+    format!(in alloc; "{}; the same again: {same}", str::from_utf8(&text).ok()?).ok()
+}
+
+// `tx_exec`: evaluates a call of the macro `hi`.
+fn evaluated<L: Ledger>(alloc: Global, steps: &mut Steps<L>) -> Option<String> {
+    let hi = tx_scm::read(alloc, b"(macro \"x\" (concat \"Hi \" (arg \"x\")))", steps).ok()?;
+    let mut env = Env::new(alloc);
+    env.set(text_of(alloc, b"hi").ok()?, hi).ok()?;
+    let tree = tx_scm::read(alloc, b"(hi \"you\")", steps).ok()?;
+    let tagged = Tagged { tree, at: None };
+    let Outcome::Done(trace) = eval(alloc, &tagged, &mut env, 1000, steps).ok()? else {
+        return None;
+    };
+    let mut text = Vec::new(alloc);
+    tx_scm::write(&trace.value.plain(alloc, steps).ok()?, &mut text).ok()?;
+    format!(in alloc; "{} in {} steps", str::from_utf8(&text).ok()?, trace.cost).ok()
+}
+
+// The buffer of a TM document, under a name.
+fn buffer_of<L: Ledger>(
+    alloc: Global,
+    name: &[u8],
+    bytes: &[u8],
+    steps: &mut Steps<L>,
+) -> Option<Buffer> {
+    let tree = tx_tm_read::read(alloc, bytes, steps).ok()?;
+    let name = Name::from(Vec::from_slice(alloc, name).ok()?);
+    Some(Buffer { name, tree })
+}
+
+// `tx_view`: shows a TM document on pages of 40 columns and 24 lines, and gives the place of the document that row 1,
+// column 4 shows.
+fn shown<L: Ledger>(alloc: Global, steps: &mut Steps<L>) -> Option<String> {
+    let bytes = b"<section|Hi>\n\nAn <em|important> note.";
+    let buffers = vec![in alloc; buffer_of(alloc, b"note", bytes, steps)?].ok()?;
+    let mut view = View::new(alloc, &buffers, 40, 24, steps).ok()?;
+    view.refresh(alloc, steps).ok()?;
+    let mut out = MemSink::new(alloc, 1000, Vec::new(alloc)).ok()?;
+    tx_print::print_pages(&view, &mut out).ok()?;
+    let place = view.position(1, 4)?.place(alloc).ok()?;
+    format!(in alloc; "{}place {place}", str::from_utf8(out.written()).ok()?).ok()
+}
+
+// `tx_session`: answers two commands over a document.
+fn answered<L: Ledger>(alloc: Global, steps: &mut Steps<L>) -> Option<String> {
+    let bytes = b"An <em|important> note.";
+    let buffers = vec![in alloc; buffer_of(alloc, b"note", bytes, steps)?].ok()?;
+    let mut session = Session::start(alloc, buffers, 40, 24, steps).ok()?;
+    let mut store = MemStore::new(Vec::new(alloc), Vec::new(alloc));
+    let mut out = MemSink::new(alloc, 1000, Vec::new(alloc)).ok()?;
+    for line in ["type \"So: \"", "show"] {
+        let command = tx_cmd::parse(alloc, line.as_bytes(), steps).ok()?;
+        let next = session.step(alloc, &command, &mut store, &mut out, steps);
+        next.ok()?;
+    }
+    format!(in alloc; "{}", str::from_utf8(out.written()).ok()?).ok()
+}
+
+// Prints what an example returned. False where it returned nothing, or the output failed.
+fn printed<R: Print>(rt: &R, name: &str, answer: &Option<String>) -> bool {
+    match answer {
+        Some(text) => println!(rt; "{name}: {text}").is_ok(),
+        None => false,
+    }
+}
+
+// Prints all examples.
+fn print_all<R: Print + AllocGlobal, L: Ledger>(rt: &R, blank: Blank) -> bool
+    requires name { blank.name ≡ L.name }
+    requires parts { blank.parts ≡ L.parts }
+    requires whole { blank.parts ≡ 1 }
+{
+    let alloc = rt.alloc();
+    let mut steps = Steps::<L>::new(blank);
+    printed(rt, "tx_tree", &made(alloc, &mut steps))
+        && printed(rt, "tx_scm", &read_scheme(alloc, &mut steps))
+        && printed(rt, "tx_tm_read", &read_tm(alloc, &mut steps))
+        && printed(rt, "tx_mod", &changed(alloc, &mut steps))
+        && printed(rt, "tx_exec", &evaluated(alloc, &mut steps))
+        && printed(rt, "tx_view", &shown(alloc, &mut steps))
+        && printed(rt, "tx_session", &answered(alloc, &mut steps))
+}
+
+fn main(rt: HostRuntime) -> ExitCode {
+    if print_all::<HostRuntime, Brand>(&rt, Blank::new(1)) {
+        ExitCode::from(0)
+    } else {
+        ExitCode::from(1)
+    }
+}
