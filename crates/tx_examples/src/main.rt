@@ -87,27 +87,45 @@ fn buffer_of<L: Ledger>(
     Some(Buffer { name, tree })
 }
 
-// `tx_view`: shows a TM document on pages of 40 columns and 24 lines, and gives the place of the document that row 1,
-// column 4 shows.
+// `tx_view`: shows a TM document on pages of 40 columns and 24 lines.
 fn shown<L: Ledger>(alloc: Global, steps: &mut Steps<L>) -> Option<String> {
     let bytes = b"<section|Hi>\n\nAn <em|important> note.";
     let buffers = vec![in alloc; buffer_of(alloc, b"note", bytes, steps)?].ok()?;
     let mut view = View::new(alloc, &buffers, 40, 24, steps).ok()?;
+    pages_and_place(alloc, &mut view, steps)
+}
+
+// The pages of a view, and the place of the document that its row 1, column 4 shows.
+fn pages_and_place<L: Ledger>(
+    alloc: Global,
+    view: &mut View,
+    steps: &mut Steps<L>,
+) -> Option<String> {
     view.refresh(alloc, steps).ok()?;
     let mut out = MemSink::new(alloc, 1000, Vec::new(alloc)).ok()?;
-    tx_print::print_pages(&view, &mut out).ok()?;
+    tx_print::print_pages(view, &mut out).ok()?;
     let place = view.position(1, 4)?.place(alloc).ok()?;
     format!(in alloc; "{}place {place}", str::from_utf8(out.written()).ok()?).ok()
 }
 
-// `tx_session`: answers two commands over a document.
-fn answered<L: Ledger>(alloc: Global, steps: &mut Steps<L>) -> Option<String> {
+// `tx_session`: carries out two commands over a document.
+fn carried_out<L: Ledger>(alloc: Global, steps: &mut Steps<L>) -> Option<String> {
     let bytes = b"An <em|important> note.";
     let buffers = vec![in alloc; buffer_of(alloc, b"note", bytes, steps)?].ok()?;
     let mut session = Session::start(alloc, buffers, 40, 24, steps).ok()?;
+    replies(alloc, &mut session, &["type \"So: \"", "show"], steps)
+}
+
+// What a session replies to these lines.
+fn replies<L: Ledger>(
+    alloc: Global,
+    session: &mut Session,
+    lines: &[&str],
+    steps: &mut Steps<L>,
+) -> Option<String> {
     let mut store = MemStore::new(Vec::new(alloc), Vec::new(alloc));
     let mut out = MemSink::new(alloc, 1000, Vec::new(alloc)).ok()?;
-    for line in ["type \"So: \"", "show"] {
+    for line in lines {
         let command = tx_cmd::parse(alloc, line.as_bytes(), steps).ok()?;
         let next = session.step(alloc, &command, &mut store, &mut out, steps);
         next.ok()?;
@@ -137,7 +155,7 @@ fn print_all<R: Print + AllocGlobal, L: Ledger>(rt: &R, blank: Blank) -> bool
         && printed(rt, "tx_mod", &changed(alloc, &mut steps))
         && printed(rt, "tx_exec", &evaluated(alloc, &mut steps))
         && printed(rt, "tx_view", &shown(alloc, &mut steps))
-        && printed(rt, "tx_session", &answered(alloc, &mut steps))
+        && printed(rt, "tx_session", &carried_out(alloc, &mut steps))
 }
 
 fn main(rt: HostRuntime) -> ExitCode {
