@@ -12,7 +12,7 @@ use tx_base::Steps;
 use tx_doc::{Buffer, Name};
 use tx_env::Env;
 use tx_exec::{Outcome, eval};
-use tx_mod::{Mod, apply_and_inverse};
+use tx_mod::{Mod, apply, apply_and_inverse};
 use tx_origin::Tagged;
 use tx_outside::{MemSink, MemStore};
 use tx_session::Session;
@@ -30,49 +30,54 @@ fn made<L: Ledger>(alloc: Global, steps: &mut Steps<L>) -> Option<String> {
     format!(in alloc; "size {size}, depth {depth}; the subtree at {path} has size {two}").ok()
 }
 
+// The canonical Scheme text of a tree.
+fn scheme_text(alloc: Global, tree: &Tree) -> Option<String> {
+    let mut text = Vec::new(alloc);
+    tx_scm::write(tree, &mut text).ok()?;
+    String::from_utf8(text).ok()
+}
+
 // `tx_scm`: reads a tree in Scheme syntax, and writes its canonical text.
 fn read_scheme<L: Ledger>(alloc: Global, steps: &mut Steps<L>) -> Option<String> {
     let tree = tx_scm::read(alloc, b"( document\"one\" (em \"two\") )", steps).ok()?;
-    let mut text = Vec::new(alloc);
-    tx_scm::write(&tree, &mut text).ok()?;
-    String::from_utf8(text).ok()
+    scheme_text(alloc, &tree)
 }
 
 // `tx_tm_read`: reads a TM document, and gives the place of a fault in another one.
 fn read_tm<L: Ledger>(alloc: Global, steps: &mut Steps<L>) -> Option<String> {
     let tree = tx_tm_read::read(alloc, b"one <em|two>", steps).ok()?;
-    let mut text = Vec::new(alloc);
-    tx_scm::write(&tree, &mut text).ok()?;
+    let text = scheme_text(alloc, &tree)?;
     let fault = tx_tm_read::read(alloc, b"<em|two", steps).err()?;
-    format!(in alloc; "{}; {fault}", str::from_utf8(&text).ok()?).ok()
+    format!(in alloc; "{text}; {fault}").ok()
 }
 
 // `tx_mod`: changes a tree, and takes the change back by its inverse.
-fn changed<L: Ledger>(alloc: Global, steps: &mut Steps<L>) -> Option<String> {
-    let before = tx_scm::read(alloc, b"(document \"one\" \"two\")", steps).ok()?;
-    let words = Tree::leaf(alloc, text_of(alloc, b"twenty-").ok()?).ok()?;
-    let insert = Mod::Insert(Path::parse(alloc, b"/1").ok()?, 0, words);
-    let (after, inverse) = apply_and_inverse(alloc, &before, &insert, steps).ok()?;
-    let (back, _) = apply_and_inverse(alloc, &after, &inverse, steps).ok()?;
-    let mut text = Vec::new(alloc);
-    tx_scm::write(&after, &mut text).ok()?;
+fn taken_out<L: Ledger>(alloc: Global, steps: &mut Steps<L>) -> Option<String> {
+    let before = tx_scm::read(alloc, b"(document \"one\" \"twenty-two\")", steps).ok()?;
+    let remove = Mod::Remove(Path::parse(alloc, b"/1").ok()?, 0, 7);
+    let (after, inverse) = apply_and_inverse(alloc, &before, &remove, steps).ok()?;
+    let back = apply(alloc, &after, &inverse, steps).ok()?;
     let same = back.same(&before);
-    format!(in alloc; "{}; the same again: {same}", str::from_utf8(&text).ok()?).ok()
+    let text = scheme_text(alloc, &after)?;
+    format!(in alloc; "{text}; the same again: {same}").ok()
 }
 
-// `tx_exec`: evaluates a call of the macro `hi`.
-fn evaluated<L: Ledger>(alloc: Global, steps: &mut Steps<L>) -> Option<String> {
+// An environment in which `hi` is a macro.
+fn greetings<L: Ledger>(alloc: Global, steps: &mut Steps<L>) -> Option<Env> {
     let hi = tx_scm::read(alloc, b"(macro \"x\" (concat \"Hi \" (arg \"x\")))", steps).ok()?;
     let mut env = Env::new(alloc);
     env.set(text_of(alloc, b"hi").ok()?, hi).ok()?;
+    Some(env)
+}
+
+// `tx_exec`: evaluates a call of the macro `hi`.
+fn greeted<L: Ledger>(alloc: Global, steps: &mut Steps<L>) -> Option<String> {
+    let mut env = greetings(alloc, steps)?;
     let tree = tx_scm::read(alloc, b"(hi \"you\")", steps).ok()?;
-    let tagged = Tagged { tree, at: None };
-    let Outcome::Done(trace) = eval(alloc, &tagged, &mut env, 1000, steps).ok()? else {
-        return None;
-    };
-    let mut text = Vec::new(alloc);
-    tx_scm::write(&trace.value.plain(alloc, steps).ok()?, &mut text).ok()?;
-    format!(in alloc; "{} in {} steps", str::from_utf8(&text).ok()?, trace.cost).ok()
+    match eval(alloc, &Tagged { tree, at: None }, &mut env, 1000, steps).ok()? {
+        Outcome::Done(trace) => scheme_text(alloc, &trace.value.plain(alloc, steps).ok()?),
+        Outcome::Over => None,
+    }
 }
 
 // The buffer of a TM document, under a name.
@@ -134,8 +139,8 @@ fn replies<L: Ledger>(
 }
 
 // Prints what an example returned. False where it returned nothing, or the output failed.
-fn printed<R: Print>(rt: &R, name: &str, answer: &Option<String>) -> bool {
-    match answer {
+fn printed<R: Print>(rt: &R, name: &str, returned: &Option<String>) -> bool {
+    match returned {
         Some(text) => println!(rt; "{name}: {text}").is_ok(),
         None => false,
     }
@@ -152,8 +157,8 @@ fn print_all<R: Print + AllocGlobal, L: Ledger>(rt: &R, blank: Blank) -> bool
     printed(rt, "tx_tree", &made(alloc, &mut steps))
         && printed(rt, "tx_scm", &read_scheme(alloc, &mut steps))
         && printed(rt, "tx_tm_read", &read_tm(alloc, &mut steps))
-        && printed(rt, "tx_mod", &changed(alloc, &mut steps))
-        && printed(rt, "tx_exec", &evaluated(alloc, &mut steps))
+        && printed(rt, "tx_mod", &taken_out(alloc, &mut steps))
+        && printed(rt, "tx_exec", &greeted(alloc, &mut steps))
         && printed(rt, "tx_view", &shown(alloc, &mut steps))
         && printed(rt, "tx_session", &carried_out(alloc, &mut steps))
 }
