@@ -51,15 +51,24 @@ fn read_tm<L: Ledger>(alloc: Global, steps: &mut Steps<L>) -> Option<String> {
     format!(in alloc; "{text}; {fault}").ok()
 }
 
-// `tx_mod`: changes a tree, and takes the change back by its inverse.
+// `tx_mod`: takes seven bytes out of a text, and puts them back by the inverse.
 fn taken_out<L: Ledger>(alloc: Global, steps: &mut Steps<L>) -> Option<String> {
     let before = tx_scm::read(alloc, b"(document \"one\" \"twenty-two\")", steps).ok()?;
     let remove = Mod::Remove(Path::parse(alloc, b"/1").ok()?, 0, 7);
     let (after, inverse) = apply_and_inverse(alloc, &before, &remove, steps).ok()?;
-    let back = apply(alloc, &after, &inverse, steps).ok()?;
-    let same = back.same(&before);
-    let text = scheme_text(alloc, &after)?;
-    format!(in alloc; "{text}; the same again: {same}").ok()
+    put_back(alloc, &after, &inverse, steps)
+}
+
+// A tree, and what a modification makes of it.
+fn put_back<L: Ledger>(
+    alloc: Global,
+    after: &Tree,
+    inverse: &Mod,
+    steps: &mut Steps<L>,
+) -> Option<String> {
+    let back = apply(alloc, after, inverse, steps).ok()?;
+    let text = scheme_text(alloc, after)?;
+    format!(in alloc; "{text}, and back {}", scheme_text(alloc, &back)?).ok()
 }
 
 // An environment in which `hi` is a macro.
