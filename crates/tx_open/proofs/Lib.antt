@@ -1,4 +1,5 @@
 pub mod Reading
 pub mod Files
+pub mod Nodes
 mod Single
 mod Complete

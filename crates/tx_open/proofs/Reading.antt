@@ -71,7 +71,7 @@ own_name files name [] (b ∷ bs) h a = absurd h
 own_name files name (f ∷ fs) [] h a = absurd h
 own_name files name (f ∷ fs) (b ∷ bs) h a =
     let own = h.0 in
-    ((λ e. a.0 (sym own.0 ∙ e)), own_name files name fs bs h.1 a.1)
+    ((λ e. a.0 (sym own.named ∙ e)), own_name files name fs bs h.1 a.1)
 
 pub names_differ : (files : Option Files) (names : List Named) (buffers : List Buffer) → AreRead files names buffers
     → AreNamedApart names → NamesDiffer buffers
@@ -80,7 +80,7 @@ names_differ files [] (b ∷ bs) h a = absurd h
 names_differ files (f ∷ fs) [] h a = absurd h
 names_differ files (f ∷ fs) (b ∷ bs) h a =
     let own = h.0 in (
-      subst (λ (name : List ℕ). AllByRecursion (λ (other : Buffer). other.name ≢ name) bs) (sym own.0)
+      subst (λ (name : List ℕ). AllByRecursion (λ (other : Buffer). other.name ≢ name) bs) (sym own.named)
           (own_name files f.name fs bs h.1 a.0),
       names_differ files fs bs h.1 a.1,
     )

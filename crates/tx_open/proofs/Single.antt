@@ -5,6 +5,7 @@ use Rattle.tx_tm_form.proofs.Words.{one_tree as tm_tree_once}
 use Rattle.tx_generated.specs.Document.{document_text}
 use Rattle.tx_outside.specs.Files.{Files}
 use Rattle.tx_doc.specs.declared.buffer.Buffer.{Buffer}
+use Rattle.tx_doc.specs.Modern.{modern}
 use Rattle.tx_words.specs.declared.asked.Source.{Source}
 use Rattle.tx_words.specs.declared.asked.Source.TheVariants.{Files as AllFiles, Generated as FromNumber}
 use Rattle.tx_words.specs.Words.{Ask, AreFaulty, Named}
@@ -18,8 +19,9 @@ module _ (told : Files) where
   -- a file has one buffer, and some files have one list of buffers
   buffer_once : (file : Named) (b c : Buffer) → IsReadAs (Some told) file b → IsReadAs (Some told) file c → b ≡ c
   buffer_once file b c h k =
-      let name : b.name ≡ c.name = h.0 ∙ sym k.0 in
-      let tree = tree_once told file.word b.tree c.tree h.1 k.1 in
+      let name : b.name ≡ c.name = h.named ∙ sym k.named in
+      let spelled = tree_once told file.word h.spelled k.spelled h.read k.read in
+      let tree : b.tree ≡ c.tree = h.made ∙ ap modern spelled ∙ sym k.made in
       λ i. record { name = name i; tree = tree i }
 
   read_once : (names : List Named) (bs cs : List Buffer) → AreRead (Some told) names bs → AreRead (Some told) names cs
@@ -36,13 +38,13 @@ module _ (told : Files) where
   read_all : (before behind : List Named) (file : Named) (bs : List Buffer) (o : OpenOutcome)
       → AreRead (Some told) (before ++ file ∷ behind) bs → Cause told file.word o → ⊥
   read_all [] behind file [] o h c = h
-  read_all [] behind file (b ∷ bs) o h c = let own = h.0 in read_on told file.word o b.tree c own.1
+  read_all [] behind file (b ∷ bs) o h c = let own = h.0 in read_on told file.word o own.spelled c own.read
   read_all (f ∷ before) behind file [] o h c = h
   read_all (f ∷ before) behind file (b ∷ bs) o h c = read_all before behind file bs o h.1 c
 
   -- it ends at the file that is read: it doesn't
   other_file : (f g : Named) (b : Buffer) (o : OpenOutcome) → f ≡ g → Cause told f.word o → IsReadAs (Some told) g b → ⊥
-  other_file f g b o e c h = read_on told g.word o b.tree (subst (λ (x : Named). Cause told x.word o) e c) h.1
+  other_file f g b o e c h = read_on told g.word o h.spelled (subst (λ (x : Named). Cause told x.word o) e c) h.read
 
   -- there is one place at most
   one_place : (before later behind beyond : List Named) (f g : Named) (bs cs : List Buffer) (o p : OpenOutcome)

@@ -9,6 +9,7 @@ use Rattle.tx_tree.specs.Limits.{IsWithinLimits}
 use Rattle.tx_tree.specs.declared.faults.ReadFault.{ReadFault}
 use Rattle.tx_doc.specs.declared.buffer.Buffer.{Buffer}
 use Rattle.tx_doc.specs.Forms.{form_of}
+use Rattle.tx_doc.specs.Modern.{modern}
 use Rattle.tx_tm_form.specs.Forms.{Spells as SpellsTm}
 use Rattle.tx_generated.specs.Document.{document_text}
 use Rattle.tx_words.specs.declared.asked.Source.TheVariants as sources
@@ -50,9 +51,12 @@ pub record IsFaultOf (files : Option Files) (word : List ℕ) (fault : ReadFault
   pub held : FileHolds files word bytes
   pub misspelled : IsFaultIn (form_of word) bytes fault
 
--- the buffer has the name of the file and its tree
-abbrev pub IsReadAs : Option Files → Named → Buffer → Type 0
-IsReadAs files file buffer = (buffer.name ≡ file.name) × IsTreeOfFile files file.word buffer.tree
+-- the buffer has the name of the file, and the modern form of the tree that its bytes spell
+pub record IsReadAs (files : Option Files) (file : Named) (buffer : Buffer) : Type 0 where
+  pub named : buffer.name ≡ file.name
+  pub spelled : WideTree
+  pub read : IsTreeOfFile files file.word spelled
+  pub made : buffer.tree ≡ modern spelled
 
 -- Opening ends at the file of this word. A fault of the store and want of memory may come at each.
 abbrev pub EndsAt : Option Files → List ℕ → OpenOutcome → Type 0

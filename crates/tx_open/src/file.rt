@@ -1,5 +1,5 @@
 // A file, loaded and read.
-ghost use Rattle.std.specs.Prelude.{◌≡◌, ◌≢◌, ◌≤◌, ◌+◌, IfOk, IfErr};
+ghost use Rattle.std.specs.Prelude.{◌≡◌, ◌≢◌, ◌≤◌, ◌+◌, ◌*◌, IfOk, IfErr};
 ghost use Rattle.tx_outside.specs.Outside.{StoreGoesOn};
 ghost use Rattle.tx_tree.specs.Limits.{IsWithinLimits};
 ghost use Rattle.tx_tree.specs.WideTree.{nodes_of};
@@ -11,8 +11,8 @@ ghost use Rattle.tx_open.specs.Outcomes.{EndsAt, IsCaused, IsReadAs, IsTreeOfFil
 use crate::failure::Failure;
 use std::alloc::Global;
 use std::sync::ledger::Ledger;
-use tx_base::Steps;
-use tx_doc::{Buffer, Form, Name, form_of};
+use tx_base::{Memory, Steps};
+use tx_doc::{Buffer, Form, Name, form_of, modern};
 use tx_outside::{LoadFault, Store};
 use tx_tree::{ReadFault, Tree};
 use tx_words::FileWord;
@@ -35,7 +35,7 @@ fn read<L: Ledger>(
     }
 }
 
-// The tree of the file of this word.
+// The tree of the file of this word, as its bytes spell it.
 fn read_tree<'a, S: Store, L: Ledger>(
     alloc: Global,
     word: &'a [u8],
@@ -63,7 +63,7 @@ fn read_tree<'a, S: Store, L: Ledger>(
     }
 }
 
-/// The buffer of a file: its tree, under the file's name.
+/// The buffer of a file: the modern form of its tree, under the file's name.
 pub(crate) fn read_file<'a, S: Store, L: Ledger>(
     alloc: Global,
     file: FileWord<'a>,
@@ -73,14 +73,17 @@ pub(crate) fn read_file<'a, S: Store, L: Ledger>(
     ensures read { IfOk result (λ buffer. IsReadAs (S.seen store.old).files (named_of file.entry) buffer) }
     ensures failed { IfErr result (λ failure. EndsAt (S.seen store.old).files file.entry.word.now (failed_as failure)) }
     ensures caused { IfErr result (λ failure. IsCaused (S.seen store.old) (S.seen store.new) (failed_as failure)) }
-    ensures counted { IfOk result (λ buffer. steps.new ≤ steps.old + nodes_of buffer.tree) }
+    ensures counted { IfOk result (λ buffer. steps.new ≤ steps.old + 2 * nodes_of buffer.tree) }
     ensures files_kept { (S.seen store.new).files ≡ (S.seen store.old).files }
     ensures store_goes_on { StoreGoesOn (S.seen store.old) (S.seen store.new) }
 {
     let name = Vec::from_slice(alloc, file.name)?;
-    let tree = read_tree(alloc, file.word.as_bytes(), store, steps)?;
-    Ok(Buffer {
-        name: Name::from(name),
-        tree,
-    })
+    let spelled = read_tree(alloc, file.word.as_bytes(), store, steps)?;
+    match modern(alloc, &spelled, steps) {
+        Ok(tree) => Ok(Buffer {
+            name: Name::from(name),
+            tree,
+        }),
+        Err(Memory) => Err(Failure::NoMemory),
+    }
 }

@@ -1,5 +1,5 @@
 // All files that the words name, loaded and read.
-ghost use Rattle.std.specs.Prelude.{◌≡◌, ◌<◌, ◌≤◌, ◌+◌, ◌^◌, ◌⊎◌, ℕ, List, [], ◌∷◌, map, length, IfOk, IfErr, OnOk};
+ghost use Rattle.std.specs.Prelude.{◌≡◌, ◌<◌, ◌≤◌, ◌+◌, ◌*◌, ◌^◌, ◌⊎◌, ℕ, List, [], ◌∷◌, map, length, IfOk, IfErr, OnOk};
 ghost use Rattle.std.specs.String.{string_bytes};
 ghost use Rattle.tx_outside.specs.Counts.{Rose};
 ghost use Rattle.tx_outside.specs.Outside.{StoreGoesOn, StoreIsFaultless};
@@ -8,7 +8,7 @@ ghost use Rattle.tx_doc.specs.declared.buffer.Buffer.{Buffer as SomeBuffer};
 ghost use Rattle.tx_words.specs.Seen.{named_of};
 ghost use Rattle.tx_words.specs.declared.asked.Source.{Source as SomeSource};
 ghost use Rattle.tx_words.specs.Words.{Ask, AreFaulty};
-ghost use Rattle.tx_open.specs.Openings.{IfOpened, failed_as, open_outcome};
+ghost use Rattle.tx_open.specs.Openings.{IfOpened, failed_as, open_outcome, reading_cost};
 ghost use Rattle.tx_open.specs.Outcomes.{AreRead, AskForFiles, CanBeOpened, ComesTo, EndsIn, IsCaused, IsGenerated};
 ghost use Rattle.tx_open.specs.Outcomes.{missing, no_memory, nodes_in_buffers, opened, store_fault, too_long};
 ghost use Rattle.tx_open.specs.declared.opening.Opened.{Opened as WasOpened};
@@ -23,7 +23,9 @@ use tx_base::{Memory, Steps};
 use tx_doc::Buffer;
 use tx_outside::Store;
 use tx_tree::ReadFault;
-use tx_words::{FileWord, FileWords, Source, Words, WordsFault, one_asking, read_words};
+use tx_words::{
+    FileWord, FileWords, MOST_FILES, Source, Words, WordsFault, one_asking, read_words,
+};
 
 /// What was opened.
 #[derive(Drop)]
@@ -32,7 +34,7 @@ pub struct Opened {
     pub width: u32,
     /// The height of a page, 5 to 500 lines.
     pub height: u32,
-    /// The document, and the styles behind it, 1 to 16 buffers, no two of one name.
+    /// The document, and the styles after it, 1 to 64 buffers, no two of one name.
     pub buffers: Buffers,
 }
 
@@ -90,7 +92,7 @@ fn add_files<'a, S: Store, L: Ledger>(
     ensures failed { IfErr result
         (λ failure. EndsIn (S.seen store.old).files (map named_of files.now) (failed_as failure)) }
     ensures caused { IfErr result (λ failure. IsCaused (S.seen store.old) (S.seen store.new) (failed_as failure)) }
-    ensures counted { OnOk result (steps.new ≤ steps.old + nodes_in_buffers buffers.new.items) }
+    ensures counted { OnOk result (steps.new ≤ steps.old + 2 * nodes_in_buffers buffers.new.items) }
     ensures files_kept { (S.seen store.new).files ≡ (S.seen store.old).files }
     ensures store_goes_on { StoreGoesOn (S.seen store.old) (S.seen store.new) }
 {
@@ -113,7 +115,7 @@ fn read_files<'a, S: Store, L: Ledger>(
     ensures read { IfOk result (λ all. AreRead (S.seen store.old).files files.now all.buffers) }
     ensures failed { IfErr result (λ failure. EndsIn (S.seen store.old).files files.now (failed_as failure)) }
     ensures caused { IfErr result (λ failure. IsCaused (S.seen store.old) (S.seen store.new) (failed_as failure)) }
-    ensures counted { IfOk result (λ all. steps.new ≤ steps.old + nodes_in_buffers all.buffers) }
+    ensures counted { IfOk result (λ all. steps.new ≤ steps.old + 2 * nodes_in_buffers all.buffers) }
     ensures files_kept { (S.seen store.new).files ≡ (S.seen store.old).files }
     ensures store_goes_on { StoreGoesOn (S.seen store.old) (S.seen store.new) }
 {
@@ -156,7 +158,8 @@ fn generate<L: Ledger>(
 ///
 /// The first file that isn't there, is too long, spells no tree within the limits, or at which the store fails, is what
 /// it comes to, and no later file is loaded. Faulty words ask nothing of the store, nor do words that memory doesn't
-/// suffice to read. Where the files are opened, the steps rise by at most the nodes of their trees that aren't leaves.
+/// suffice to read. The buffers hold the modern forms of the files' trees (`tx_doc::modern`). Where files are opened, the
+/// steps rise by at most twice the nodes of their trees that aren't leaves: each is read, and may be made modern.
 ///
 /// Where FILE is `gen:number:count`, the document of `tx_generated` is generated and read, as the one buffer `gen`, and
 /// nothing is asked of the store.
@@ -191,9 +194,9 @@ pub fn open<'a, S: Store, L: Ledger>(
     // What was opened is what a session begins with.
     ensures width { IfOpened result (λ all. (20 ≤ all.width) × (all.width ≤ 500)) }
     ensures height { IfOpened result (λ all. (5 ≤ all.height) × (all.height ≤ 500)) }
-    ensures number { IfOpened result (λ all. (1 ≤ length all.buffers) × (length all.buffers ≤ 16)) }
+    ensures number { IfOpened result (λ all. (1 ≤ length all.buffers) × (length all.buffers ≤ MOST_FILES)) }
     ensures names { IfOpened result (λ all. NamesDiffer all.buffers) }
-    ensures counted { IfOpened result (λ all. steps.new ≤ steps.old + nodes_in_buffers all.buffers) }
+    ensures counted { IfOpened result (λ all. steps.new ≤ steps.old + reading_cost result) }
 
     // What is as before, and what never falls.
     ensures untouched { AreFaulty (map string_bytes words.now) → (store.new ≡ store.old) × (steps.new ≡ steps.old) }

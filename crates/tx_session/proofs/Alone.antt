@@ -11,7 +11,7 @@ use Rattle.tx_session.specs.declared.status.Status.{Status}
 use Rattle.tx_session.specs.declared.status.Status.TheVariants as statuses
 use Rattle.tx_session.specs.Playing.{IsClosedInPart, IsCutOff, IsUnopenedLine, IsServed, IsServedAlone}
 use Rattle.tx_session.specs.Runs.{IsOwnLineAlone, IsPlayed, IsPlayedAlone, IsReplyAlone, IsReplyBehind, IsRun}
-use Rattle.tx_session.specs.Runs.{CanBeRead, generated_script, no_files, opening_cost, seen_outside, own_line}
+use Rattle.tx_session.specs.Runs.{CanBeRead, generated_script, no_files, generating_cost, seen_outside, own_line}
 use Rattle.tx_session.specs.Runs.{start_with}
 use Rattle.tx_session.specs.Worlds.{KeepsFiles, LineMark, World}
 use Rattle.tx_session.proofs.Causes.{line_run, run_of, served_closed}
@@ -21,7 +21,7 @@ never_rose (inl lt) = omega (arith, lt)
 never_rose (inr e) = omega (arith, e)
 
 module _ (all : Opened) (old steps : ℕ) (last : World) (left : List ℕ) (before after : Option (List ℕ))
-    (begun : steps ≤ old + opening_cost all) (kept : last.store ≡ no_files) where
+    (begun : steps ≤ old + generating_cost all) (kept : last.store ≡ no_files) where
   abbrev beginning : World
   beginning = start_with all no_files steps
 

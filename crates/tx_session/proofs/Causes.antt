@@ -1,5 +1,5 @@
 -- Why a run ends as it does.
-use Rattle.std.proofs.Common.{◌≡◌, ◌≢◌, ◌⊎◌, ◌≤◌, ◌+◌, inl, inr, ℕ, List, [], ◌++◌, Option, Some, None, IfSome}
+use Rattle.std.proofs.Common.{◌≡◌, ◌≢◌, ◌⊎◌, ◌≤◌, ◌+◌, ◌*◌, inl, inr, ℕ, List, [], ◌++◌, Option, Some, None, IfSome}
 use Rattle.std.proofs.Common.{refl, sym, ap, subst, ◌∙◌, arith}
 use Rattle.std.specs.Io.KnownBytes.{append_known}
 use Rattle.tx_outside.specs.Files.{Files}
@@ -285,7 +285,7 @@ module _ (words : List (List ℕ)) (stored first : StoreSeen) (old steps : ℕ) 
 -- the same, or memory ran out before its session began
 module _ (words : List (List ℕ)) (stored first later : StoreSeen) (old mid new : ℕ) (input behind : SourceSeen)
     (all : Opened) (status : Status) (before after : SinkSeen) (loaded : KeepsFiles stored first)
-    (within : mid ≤ old + nodes_in_buffers all.buffers) (comes : ComesTo words stored.files (opened all)) where
+    (within : mid ≤ old + 2 * nodes_in_buffers all.buffers) (comes : ComesTo words stored.files (opened all)) where
   abbrev IsThis : StoreSeen → SourceSeen → Type 0
   IsThis store source = IsRun words status (seen_outside stored input before old) (seen_outside store source after new)
 

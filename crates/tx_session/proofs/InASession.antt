@@ -27,6 +27,8 @@ use Rattle.tx_doc.specs.declared.forms.Form.{Form}
 use Rattle.tx_doc.specs.declared.forms.Form.TheVariants.{Tm, Scheme}
 use Rattle.tx_doc.specs.Buffers.{tree_of, with_tree, document_of, number_of, AreFormed}
 use Rattle.tx_doc.specs.Forms.{form_of}
+use Rattle.tx_doc.specs.Modern.{modern}
+use Rattle.tx_doc.proofs.WithoutCalls.{modern_formed, modern_within}
 use Rattle.tx_state.specs.States.{State, KeptEdit, present}
 use Rattle.tx_state.specs.Edits.{edited_to, with_outcome, back_to, on_to, cursor_after}
 use Rattle.tx_state.specs.declared.TheConstants.{MOST_UNDO}
@@ -283,6 +285,10 @@ opened_formed : (form : Form) (bytes : List ℕ) (t : WideTree) → SpellsIn for
 opened_formed Scheme bytes t h = well_formed bytes t h
 opened_formed Tm bytes t h = spelled_tree bytes t h
 
+-- the modern form of a formed tree is formed
+modern_tree : (t u : WideTree) → u ≡ modern t → IsWellFormed t → IsWithinLimits t → IsWellFormed u × IsWithinLimits u
+modern_tree t u e h w = rw e (modern_formed t h, modern_within t w)
+
 -- files are read as formed trees
 read_formed : (files : Option Files) (names : List Named) (buffers : List Buffer) → AreRead files names buffers
     → AreFormed buffers
@@ -290,8 +296,12 @@ read_formed files [] [] h = tt
 read_formed files [] (b ∷ bs) h = absurd h
 read_formed files (f ∷ fs) [] h = absurd h
 read_formed files (f ∷ fs) (b ∷ bs) h =
-    let tree = h.0.1 in
-    ((opened_formed (form_of f.word) tree.bytes b.tree tree.spelled, tree.within), read_formed files fs bs h.1)
+    let own = h.0 in
+    let tree = own.read in (
+      modern_tree own.spelled b.tree own.made
+          (opened_formed (form_of f.word) tree.bytes own.spelled tree.spelled) tree.within,
+      read_formed files fs bs h.1,
+    )
 
 start_formed : (all : Opened) → AreFormed all.buffers → IsFormed (seen_start all).state
 start_formed all f = record { now = f; past = tt; future = tt }

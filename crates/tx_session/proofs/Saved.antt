@@ -13,6 +13,7 @@ use Rattle.tx_tm_write.proofs.Spelling.{line_alone as tm_alone}
 use Rattle.tx_doc.specs.declared.forms.Form.{Form}
 use Rattle.tx_doc.specs.declared.forms.Form.TheVariants.{Tm, Scheme}
 use Rattle.tx_doc.specs.Forms.{form_of}
+use Rattle.tx_doc.specs.Modern.{modern}
 use Rattle.tx_session.specs.declared.replies.Reply.{Reply}
 use Rattle.tx_session.specs.declared.replies.Reply.TheVariants.{Done, Fixed, Made, Wanting, Unsaved}
 use Rattle.tx_session.specs.Forms.{Saving, no_form, file_long, writes, fitting, saving, has_text_in, form_text}
@@ -26,7 +27,7 @@ use Rattle.tx_words.specs.Names.{buffer_name}
 use Rattle.tx_words.specs.Words.{Ask, named_file}
 use Rattle.tx_words.specs.declared.asked.Source.TheVariants.{Files as AllFiles}
 use Rattle.tx_open.specs.declared.opening.Opened.{Opened}
-use Rattle.tx_open.specs.Outcomes.{OpenOutcome, opened, ComesTo, IsDecided, IsOpenedAs, IsTreeOfFile}
+use Rattle.tx_open.specs.Outcomes.{OpenOutcome, opened, ComesTo, IsDecided, IsOpenedAs, IsReadAs, IsTreeOfFile}
 use Rattle.tx_open.proofs.Files.{tree_once}
 use Rattle.tx_session.proofs.Openings.{OneOutcome}
 
@@ -179,14 +180,16 @@ module _ (told : Files) (word bytes : List ℕ) (t : WideTree) (formed : IsWellF
       → o ≡ opened (record {
         width = width;
         height = height;
-        buffers = record { name = buffer_name word; tree = t } ∷ [];
+        buffers = record { name = buffer_name word; tree = modern t } ∷ [];
       })
   opens_alone law words width height o asked comes decided =
       let all : Opened = record {
         width = width;
         height = height;
-        buffers = record { name = buffer_name word; tree = t } ∷ [];
+        buffers = record { name = buffer_name word; tree = modern t } ∷ [];
       } in
+      let own : IsReadAs (Some told) (named_file word) (record { name = buffer_name word; tree = modern t }) =
+      record { named = refl; spelled = t; read = read_again; made = refl } in
       let opens : IsOpenedAs words (Some told) all =
-      record { names = named_file word ∷ []; asked = asked; read = ((refl, read_again), tt) } in
+      record { names = named_file word ∷ []; asked = asked; read = (own, tt) } in
       law words told o (opened all) comes opens decided tt

@@ -1,6 +1,6 @@
 -- A whole run: its status, and what it wrote.
 use Rattle.std.specs.Prelude.{◌≡◌, ◌⊎◌, ◌<◌, ◌≤◌, ℕ, true, false, List, [], ◌∷◌, ◌++◌}
-use Rattle.std.specs.Prelude.{length, take, drop, codes, Option, Some, IfSome, Contains, ◌+◌, ◌≢◌}
+use Rattle.std.specs.Prelude.{length, take, drop, codes, Option, Some, IfSome, Contains, ◌+◌, ◌*◌, ◌≢◌}
 use Rattle.std.specs.List.{flat_map}
 use Rattle.std.specs.Io.KnownBytes.{append_known}
 use Rattle.tx_outside.specs.Counts.{Rose}
@@ -43,9 +43,14 @@ abbrev pub whole_start : Opened → WholeSession
 whole_start all =
     record { seen = seen_start all; keep = record { fresh = false; stores = Empty all.buffers; work = 0 } }
 
--- the most steps of opening this and starting its session: the nodes, and those that are made for units
+-- The most steps of opening these files and starting their session: each node is read, and may be made modern, and
+-- nodes are made for units.
 abbrev pub opening_cost : Opened → ℕ
-opening_cost all = nodes_in_buffers all.buffers + made all.buffers
+opening_cost all = 2 * nodes_in_buffers all.buffers + made all.buffers
+
+-- the most steps of reading this generated document and starting its session
+abbrev pub generating_cost : Opened → ℕ
+generating_cost all = nodes_in_buffers all.buffers + made all.buffers
 
 -- where a session of what was opened begins, when the count of steps is this
 abbrev pub start_with : Opened → StoreSeen → ℕ → World
@@ -158,7 +163,7 @@ pub record IsPlayedAlone (all : Opened) (old new : ℕ) (marks : List LineMark) 
     pub steps : ℕ
     pub last : World
     pub left : List ℕ
-    pub begun : steps ≤ old + opening_cost all
+    pub begun : steps ≤ old + generating_cost all
     pub played : IsPlayed (start_with all no_files steps) generated_script marks (Some left) status last text
     pub unfailing : status ≢ InputFault
     pub kept : last.store ≡ no_files
@@ -245,7 +250,7 @@ pub record IsOwnLine (input_failed : Type 0) (start : World) (script : List ℕ)
 pub record IsReplyAlone (all : Opened) (old new : ℕ) (done reply : List ℕ) : Type 0 where
   pub steps : ℕ
   pub next : World
-  pub begun : steps ≤ old + opening_cost all
+  pub begun : steps ≤ old + generating_cost all
   pub behind : IsReplyBehind (start_with all no_files steps) generated_script next done reply
   pub kept : next.store ≡ no_files
   pub counted : next.steps ≡ new

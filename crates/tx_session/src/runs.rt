@@ -14,7 +14,7 @@ ghost use Rattle.tx_open.specs.Outcomes.{AskForFiles, CanBeOpened, ComesTo, Open
 ghost use Rattle.tx_doc.specs.Buffers.{NamesDiffer};
 ghost use Rattle.tx_units.specs.Units.{made};
 ghost use Rattle.tx_session.specs.Runs.{AskToGenerate, CanBeRead, IsFinal, IsFileRefused, IsRun, IsWhole, Outside};
-ghost use Rattle.tx_session.specs.Runs.{opening_cost, seen_outside, own_line, seen_start, start_with, whole_start};
+ghost use Rattle.tx_session.specs.Runs.{generating_cost, seen_outside, own_line, seen_start, start_with, whole_start};
 ghost use Rattle.tx_session.specs.Differences.{EndsAtOpening, HoldSameFiles, Suffices};
 ghost use Rattle.tx_session.specs.Playing.{IsUnopenedLine, IsServed, IsServedAlone};
 ghost use Rattle.tx_session.specs.Scripts.{Answered};
@@ -33,6 +33,7 @@ use std::sync::ledger::Ledger;
 use tx_base::{Memory, Steps};
 use tx_open::{Opened, Opening, one_outcome, open};
 use tx_outside::{Sink, Source, Store, WriteFault, write_all};
+use tx_state::MOST_BUFFERS;
 use tx_view_form::one_view;
 
 // Writes the text, and answers the status unless the output failed.
@@ -85,7 +86,7 @@ fn session_of<L: Ledger>(
 ) -> Result<Session, Memory>
     requires width { (20 ≤ all.width) × (all.width ≤ 500) }
     requires height { (5 ≤ all.height) × (all.height ≤ 500) }
-    requires number { (1 ≤ length all.buffers) × (length all.buffers ≤ 16) }
+    requires number { (1 ≤ length all.buffers) × (length all.buffers ≤ MOST_BUFFERS) }
     requires names { NamesDiffer all.buffers }
     ensures session { IfOk result (λ session. session.seen ≡ seen_start all) }
     ensures keep { IfOk result (λ session. session.keep ≡ (whole_start all).keep) }
@@ -130,7 +131,7 @@ fn run_opened<S: Store, I: Source, O: Sink, L: Ledger>(
 ) -> Status
     requires width { (20 ≤ all.width) × (all.width ≤ 500) }
     requires height { (5 ≤ all.height) × (all.height ≤ 500) }
-    requires number { (1 ≤ length all.buffers) × (length all.buffers ≤ 16) }
+    requires number { (1 ≤ length all.buffers) × (length all.buffers ≤ MOST_BUFFERS) }
     requires names { NamesDiffer all.buffers }
     ensures ended { ((store.new ≡ store.old) × (input.new ≡ input.old)
         × IsUnopenedLine no_memory result (O.seen out.old).written (O.seen out.new).written)
@@ -172,10 +173,10 @@ fn run_alone<O: Sink, L: Ledger>(
 ) -> Status
     requires width { (20 ≤ all.width) × (all.width ≤ 500) }
     requires height { (5 ≤ all.height) × (all.height ≤ 500) }
-    requires number { (1 ≤ length all.buffers) × (length all.buffers ≤ 16) }
+    requires number { (1 ≤ length all.buffers) × (length all.buffers ≤ MOST_BUFFERS) }
     requires names { NamesDiffer all.buffers }
     ensures ended { IsUnopenedLine no_memory result (O.seen out.old).written (O.seen out.new).written
-        ⊎ ((old : ℕ) → steps.old + made all.buffers ≤ old + opening_cost all
+        ⊎ ((old : ℕ) → steps.old + made all.buffers ≤ old + generating_cost all
         → IsServedAlone all old steps.new result (O.seen out.old).written (O.seen out.new).written) }
     ensures served { ¬ EndsAtOpening result }
     ensures no_input { result ≢ Status.InputFault }

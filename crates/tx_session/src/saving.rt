@@ -20,6 +20,7 @@ ghost use Rattle.tx_cmd.specs.declared.command.Command.{Command};
 ghost use Rattle.tx_tree.specs.WideTree.{WideTree};
 ghost use Rattle.tx_tree.specs.Limits.{IsWellFormed, IsWithinLimits};
 ghost use Rattle.tx_doc.specs.Forms.{form_of};
+ghost use Rattle.tx_doc.specs.Modern.{modern};
 ghost use Rattle.tx_doc.specs.declared.forms.Form.{Form as Syntax};
 
 use crate::replies::{Reply, numbered};
@@ -112,8 +113,9 @@ pub fn saved_spells_alone()
 {}
 
 /// A law: a file that was saved within the limits opens again. `read`: wherever it stands among the files that are
-/// opened, it is read as the tree that was saved, and as no other. `alone`: words that ask for it alone come to that
-/// tree under the file's name, faults of the store and want of memory aside.
+/// opened, it is read as the tree that was saved, and as no other. `alone`: words that ask for it alone come to the
+/// modern form of that tree under the file's name, unless the store fails or memory runs out. That is the tree itself
+/// unless it is an old document with calls (`tx_doc::modern_law`), which only an edit makes of what was opened.
 pub fn saved_opens_again()
     ensures read { (told : Files) (word bytes : List ℕ) (t : WideTree) → IsWellFormed t → IsWithinLimits t
         → saving (form_of word) t ≡ writes bytes → file_of told word ≡ Some bytes
@@ -124,7 +126,7 @@ pub fn saved_opens_again()
         → ComesTo words (Some told) o → IsDecided o → o ≡ opened (record {
           width = width;
           height = height;
-          buffers = record { name = buffer_name word; tree = t } ∷ [];
+          buffers = record { name = buffer_name word; tree = modern t } ∷ [];
         }) }
 {
     one_outcome();

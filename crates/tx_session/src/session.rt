@@ -42,7 +42,7 @@ use tx_edit::{EditFault, Move, backspace, enter, left, right, type_text};
 use tx_mod::{ApplyFault, Mod, ModList};
 use tx_outside::{Sink, Store, WriteFault};
 use tx_print::{print_cursor, print_work};
-use tx_state::{Edit, EditorState, GoFault, NoBuffer, Prepared, UndoFault};
+use tx_state::{Edit, EditorState, GoFault, MOST_BUFFERS, NoBuffer, Prepared, UndoFault};
 use tx_tree::{Path, Place, Text, Tree};
 use tx_view::View;
 use tx_view_form::place_law;
@@ -197,7 +197,7 @@ fn go_right(alloc: Global, state: &mut EditorState, view: &View) -> Reply
 
 impl Session {
     /// A session over these buffers, the document first, on pages of this width, 20 to 500 cells, and this height, 5 to
-    /// 500 lines. There are 1 to 16 buffers, no two of one name. The steps rise by at most the nodes that are made for
+    /// 500 lines. There are 1 to 64 buffers, no two of one name. The steps rise by at most the nodes that are made for
     /// units. The one error is want of memory.
     pub fn start<L: Ledger>(
         alloc: Global,
@@ -207,7 +207,7 @@ impl Session {
         steps: &mut Steps<L>,
     ) -> Result<Session, Memory>
         requires some { 1 ≤ length buffers.items }
-        requires few { length buffers.items ≤ 16 }
+        requires few { length buffers.items ≤ MOST_BUFFERS }
         requires names { NamesDiffer buffers.items }
         requires least_width { 20 ≤ width }
         requires most_width { width ≤ 500 }
@@ -634,7 +634,7 @@ impl Session {
             → Rose (S.seen store.old).faults (S.seen store.new).faults) }
         ensures cursor { IsPlace (document_of self.new.seen.state.buffers)
             self.new.seen.state.cursor.path self.new.seen.state.cursor.offset }
-        ensures few { length self.new.seen.state.buffers ≤ 16 }
+        ensures few { length self.new.seen.state.buffers ≤ MOST_BUFFERS }
         ensures names { NamesDiffer self.new.seen.state.buffers }
         ensures formed { AreFormed self.new.seen.state.buffers }
         ensures fresh { self.new.seen.fresh ≡ true → self.new.keep.fresh ≡ true }

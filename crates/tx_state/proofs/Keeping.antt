@@ -46,7 +46,7 @@ next_kept s next p past future kept r put h =
     sym (length_put s.buffers.items p.buffer p.tree r.buffer) ∙ ap length same in
     record {
       some = subst (λ n. 1 ≤ n) long kept.some;
-      few = subst (λ n. n ≤ 16) long kept.few;
+      few = subst (λ n. n ≤ 64) long kept.few;
       names = subst NamesDiffer same (names_put s.buffers.items p.buffer p.tree r.buffer kept.names);
       selected = subst (λ n. next.selected < n) long
           (subst (λ n. n < length s.buffers.items) (sym put.selected) kept.selected);

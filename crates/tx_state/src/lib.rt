@@ -21,7 +21,7 @@ pub use limits::limit_law;
 pub use state::EditorState;
 
 /// The most buffers.
-pub const MOST_BUFFERS: usize = 16;
+pub const MOST_BUFFERS: usize = 64;
 
 /// The most edits that can be undone.
 pub const MOST_UNDO: usize = 1000;

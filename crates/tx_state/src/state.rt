@@ -78,7 +78,7 @@ fn exchange(
 
 impl EditorState {
     #[tactic(auto, using(crate::proofs::Leaves::first_place, std::proofs::lemmas::Grind::common_steps))]
-    /// The state in which a session begins with these buffers, of which there are 1 to 16, no two of one name. The
+    /// The state in which a session begins with these buffers, of which there are 1 to 64, no two of one name. The
     /// document is selected. The cursor is before the first leaf of the document's body, or before the body where it
     /// has none, or before the root where there is no body. The one error is want of memory.
     pub fn open(alloc: Global, buffers: Vec<Buffer>) -> Result<EditorState, Memory>
@@ -98,7 +98,7 @@ impl EditorState {
         })
     }
 
-    /// The buffers, the document first: 1 to 16, no two of one name, each tree well formed and within the limits. At
+    /// The buffers, the document first: 1 to 64, no two of one name, each tree well formed and within the limits. At
     /// most 1,000 edits can be undone or redone, at any time.
     #[tactic(auto, using(crate::proofs::Moments::count_rules))]
     pub fn buffers(&self) -> &[Buffer]

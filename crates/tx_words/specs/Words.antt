@@ -5,6 +5,7 @@ use Rattle.std.specs.List.{AllByRecursion, starts_with}
 use Rattle.clap.specs.Words.{App, Row, Rule, all_of, first_of, matches_of, new_app, new_rule, takes, with_rule}
 use Rattle.clap.specs.declared.builder.ArgAction.TheVariants.{Set, Append}
 use Rattle.tx_tree.specs.PathSpelling.{IsNumber}
+use Rattle.tx_words.specs.declared.TheConstants.{MOST_FILES}
 use Rattle.tx_words.specs.declared.asked.Source.{Source}
 use Rattle.tx_words.specs.declared.asked.Source.TheVariants.{Files, Generated}
 pub use Rattle.tx_words.specs.Names.{Named, named_file}
@@ -51,9 +52,9 @@ abbrev pub AreNamedApart : List Named → Type 0
 AreNamedApart [] = Unit {0}
 AreNamedApart (file ∷ others) = AllByRecursion (λ other. other.name ≢ file.name) others × AreNamedApart others
 
--- at most 16 files, each with a name of its own
+-- at most 64 files, each with a name of its own
 pub record MayOpen (files : List Named) : Type 0 where
-  pub few : length files ≤ 16
+  pub few : length files ≤ MOST_FILES
   pub have_names : HaveNames files
   pub differ : AreNamedApart files
 

@@ -54,7 +54,7 @@ impl<'a> From<Vec<FileWord<'a>>> for FileWords<'a> {
 /// What is to be opened.
 #[derive(Debug, Drop)]
 pub enum Source<'a> {
-    /// The document and the styles behind it, 1 to 16 files, no two of one name.
+    /// The document and the styles after it, 1 to 64 files, no two of one name.
     Files(FileWords<'a>),
     /// A document that is generated.
     Generated {

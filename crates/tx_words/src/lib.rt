@@ -7,6 +7,7 @@ mod asked;
 mod faults;
 mod generators;
 mod laws;
+mod limits;
 mod names;
 mod parsing;
 mod reading;
@@ -15,5 +16,9 @@ mod sizes;
 pub use asked::{FileWord, FileWords, Source, Words};
 pub use faults::WordsFault;
 pub use laws::{one_asking, plain_words};
+pub use limits::limit_law;
 pub use names::buffer_name;
 pub use reading::read_words;
+
+/// The most files that words ask for.
+pub const MOST_FILES: usize = 64;

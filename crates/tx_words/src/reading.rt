@@ -9,6 +9,7 @@ ghost use Rattle.tx_words.specs.Words.{AreNamedApart, RowsAsk, is_generator, nam
 ghost use Rattle.tx_words.specs.declared.asked.Source.{Source as Asked};
 ghost use Rattle.tx_words.specs.Seen.{named_of};
 
+use crate::MOST_FILES;
 use crate::asked::{FileWord, FileWords, Source, Words};
 use crate::faults::WordsFault;
 use crate::generators::{behind_gen, numbers};
@@ -18,9 +19,6 @@ use crate::sizes::size;
 use clap::ArgMatches;
 use std::alloc::Global;
 use tx_base::Memory;
-
-// The most files.
-const MOST_FILES: usize = 16;
 
 // The word, with its buffer's name.
 fn file_word<'a>(word: &'a str) -> FileWord<'a>
@@ -202,7 +200,7 @@ fn asked_by<'a>(alloc: Global, matches: &ArgMatches<'a>) -> Result<Words<'a>, Wo
 
 /// What the words ask for, the program's name first: `tmx [--width N] [--height N] FILE [STYLE]...`. A number is one
 /// to ten digits. A width is 20 to 500 cells, and 80 where none is given; a height is 5 to 500 lines, and 24. There are
-/// 1 to 16 files, each with a buffer's name of its own. A FILE that begins with `gen:` names no file: it is `gen:`, a
+/// 1 to 64 files, each with a buffer's name of its own. A FILE that begins with `gen:` names no file: it is `gen:`, a
 /// number below 2^31, `:` and a number from 1 to 60,000, and no style follows. All other words are faulty, those that
 /// ask for help too.
 pub fn read_words<'a>(alloc: Global, words: &'a [String]) -> Result<Words<'a>, WordsFault>
@@ -211,7 +209,7 @@ pub fn read_words<'a>(alloc: Global, words: &'a [String]) -> Result<Words<'a>, W
     ensures width { IfOk result (λ asked. (20 ≤ asked.width) × (asked.width ≤ 500)) }
     ensures height { IfOk result (λ asked. (5 ≤ asked.height) × (asked.height ≤ 500)) }
     ensures files { IfOk result
-        (λ asked. IfFiles asked.source (λ files. (1 ≤ length files) × (length files ≤ 16))) }
+        (λ asked. IfFiles asked.source (λ files. (1 ≤ length files) × (length files ≤ MOST_FILES))) }
     ensures names { IfOk result (λ asked. IfFiles asked.source AreNamedApart) }
     ensures number { IfOk result (λ asked. IfGenerated asked.source (λ number count. number < 2 ^ 31)) }
     ensures count { IfOk result

@@ -1,4 +1,4 @@
-use Rattle.std.proofs.Common.{◌≡◌, ◌≤◌, ◌+◌, map, take}
+use Rattle.std.proofs.Common.{◌≡◌, ◌≤◌, ◌+◌, ◌*◌, map, take}
 use Rattle.tx_outside.specs.Outside.{StoreGoesOn}
 use Rattle.tx_words.specs.Seen.{named_of}
 use Rattle.tx_open.specs.Outcomes.{AreRead, nodes_in_buffers}
@@ -8,7 +8,7 @@ abbrev pub invariant-loop-file : goal.invariant-loop-file
 invariant-loop-file g l =
     record {
       read : AreRead (g.S.Store.seen l.fn.store).files (map named_of (take l.file-index l.files)) l.buffers.items;
-      steps : l.steps ≤ l.fn.steps + nodes_in_buffers l.buffers.items;
+      steps : l.steps ≤ l.fn.steps + 2 * nodes_in_buffers l.buffers.items;
       files : (g.S.Store.seen l.store).files ≡ (g.S.Store.seen l.fn.store).files;
       goes_on : StoreGoesOn (g.S.Store.seen l.fn.store) (g.S.Store.seen l.store);
     }

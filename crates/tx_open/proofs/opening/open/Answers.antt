@@ -13,7 +13,7 @@ pub returns-in-Ok-read_files-clause-number : goal.returns-in-Ok-read_files-claus
 returns-in-Ok-read_files-clause-number g c =
     let same = as_many (g.S.Store.seen c.args.store.now).files c.in-Files.files c.in-Ok-read_files.all.buffers
     c.in-Ok-read_files.ensures.read in
-    let few = subst (λ s. IfFiles s (λ files. (1 ≤ length files) × (length files ≤ 16))) c.in-Files.is
+    let few = subst (λ s. IfFiles s (λ files. (1 ≤ length files) × (length files ≤ 64))) c.in-Files.is
     c.in-Ok.ensures.files in
     (omega (arith, same, few.0), omega (arith, same, few.1))
 
