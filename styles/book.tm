@@ -37,10 +37,6 @@
 
 <assign|:to-Roman|<macro|n|<if|<and|<greater|<arg|n>|0>|<less|<arg|n>|21>>|<look-up|<tuple|I|II|III|IV|V|VI|VII|VIII|IX|X|XI|XII|XIII|XIV|XV|XVI|XVII|XVIII|XIX|XX>|<minus|<arg|n>|1>>|<arg|n>>>>
 
-<assign|hide-preamble|<macro|x|<with|:hidden|<arg|x>|>>>
-
-<assign|show-preamble|<macro|x|<arg|x>>>
-
 <assign|doc-data|<xmacro|x|<map-args|:each|concat|x><next-line>>>
 
 <assign|make-title|<value|doc-data>>
@@ -163,7 +159,7 @@
 
 <assign|chapter|<macro|x|<assign|chapter-nr|<plus|<value|chapter-nr>|1>><with|:number|<value|chapter-nr>|:head|<concat|Chapter <value|chapter-nr>|<next-line>>|<eval|<value|:chapter>>>>>
 
-<assign|appendix|<macro|x|<assign|appendix-nr|<plus|<value|appendix-nr>|1>><with|:number|<:to-Letter|<value|appendix-nr>>|:head|<concat|Appendix <value|:number>|<next-line>>|<eval|<value|:chapter>>>>>
+<assign|appendix|<macro|x|<assign|appendix-nr|<plus|<value|appendix-nr>|1>><with|:number|<:to-Letter|<value|appendix-nr>>|<with|:head|<concat|Appendix <value|:number>|<next-line>>|<eval|<value|:chapter>>>>>>
 
 <assign|theorem-nr|0>
 
@@ -423,29 +419,33 @@
 
 <assign|protected|<value|abbr>>
 
-<assign|really-tiny|<macro|x|<with|font-size|small|<arg|x>>>>
+<assign|really-tiny|<value|abbr>>
 
-<assign|tiny|<value|really-tiny>>
+<assign|tiny|<value|abbr>>
 
-<assign|very-small|<value|really-tiny>>
+<assign|very-small|<value|abbr>>
 
-<assign|small|<value|really-tiny>>
+<assign|small|<value|abbr>>
 
-<assign|smaller|<value|really-tiny>>
+<assign|smaller|<value|abbr>>
 
-<assign|normal-size|<macro|x|<with|font-size|normal|<arg|x>>>>
+<assign|normal-size|<value|abbr>>
 
-<assign|normal|<value|normal-size>>
+<assign|normal|<value|abbr>>
 
-<assign|large|<macro|x|<with|font-size|large|<arg|x>>>>
+<assign|large|<value|abbr>>
 
-<assign|larger|<value|large>>
+<assign|larger|<value|abbr>>
 
-<assign|very-large|<value|large>>
+<assign|very-large|<value|abbr>>
 
-<assign|huge|<value|large>>
+<assign|huge|<value|abbr>>
 
-<assign|really-huge|<value|large>>
+<assign|really-huge|<value|abbr>>
+
+<assign|show-preamble|<value|abbr>>
+
+<assign|hide-preamble|<macro|x|<with|:hidden|<eval|<value|?x>>|>>>
 
 <assign|quotation|<macro|x|<with|par-left|<plus|<value|par-left>|4spc>|par-right|<plus|<value|par-right>|4spc>|par-first|0mcell|<arg|x>>>>
 
@@ -693,7 +693,7 @@
 
 <assign|:big-.|>
 
-<assign|big|<macro|x|<if|<provides|<merge|:big-|<quote-arg|x>>>|<value|<merge|:big-|<quote-arg|x>>>|<eval|<value|?x>>>>>
+<assign|big|<macro|x|<if|<equal|<get-arity|<quote-arg|x>>|0>|<if|<provides|<merge|:big-|<quote-arg|x>>>|<value|<merge|:big-|<quote-arg|x>>>|<arg|x>>|<eval|<value|?x>>>>>
 
 <assign|:wide-^|\<#302\>>
 
@@ -727,9 +727,9 @@
 
 <assign|neg|<macro|x|<eval|<value|?x>>\<#338\>>>
 
-<assign|above|<macro|x|y|<eval|<value|?x>>^(<eval|<value|?y>>)>>
+<assign|above|<macro|x|y|<eval|<value|?x>>^<eval|<value|:in-brackets-y>>>>
 
-<assign|below|<macro|x|y|<eval|<value|?x>>_(<eval|<value|?y>>)>>
+<assign|below|<macro|x|y|<eval|<value|?x>>_<eval|<value|:in-brackets-y>>>>
 
 <assign|binom|<macro|x|y|(<eval|<value|?x>> over <eval|<value|?y>>)>>
 

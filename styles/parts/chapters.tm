@@ -4,4 +4,4 @@
 
 <assign|chapter|<macro|x|<assign|chapter-nr|<plus|<value|chapter-nr>|1>><with|:number|<value|chapter-nr>|:head|<concat|Chapter <value|chapter-nr>|<next-line>>|<eval|<value|:chapter>>>>>
 
-<assign|appendix|<macro|x|<assign|appendix-nr|<plus|<value|appendix-nr>|1>><with|:number|<:to-Letter|<value|appendix-nr>>|:head|<concat|Appendix <value|:number>|<next-line>>|<eval|<value|:chapter>>>>>
+<assign|appendix|<macro|x|<assign|appendix-nr|<plus|<value|appendix-nr>|1>><with|:number|<:to-Letter|<value|appendix-nr>>|<with|:head|<concat|Appendix <value|:number>|<next-line>>|<eval|<value|:chapter>>>>>>

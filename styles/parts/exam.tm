@@ -10,7 +10,7 @@
 
 <assign|choices|<value|enumerate-Alpha>>
 
-<assign|points|<macro|x|<if|<equal|<get-arity|<plus|<value|points-total>|<arg|x>>>|0>|<assign|points-total|<plus|<value|points-total>|<arg|x>>>|>(<eval|<value|?x>> <if|<equal|<arg|x>|1>|point|points>)>>
+<assign|points|<macro|x|<if|<equal|<get-arity|<plus|<value|points-total>|<arg|x>>>|0>|<assign|points-total|<plus|<value|points-total>|<arg|x>>>|>(<eval|<value|?x>> <if|<equal|<arg|x>|1>|point|points>) >>
 
 <assign|total-points|<macro|<value|points-total>>>
 

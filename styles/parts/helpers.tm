@@ -35,7 +35,3 @@
 <assign|:to-roman|<macro|n|<if|<and|<greater|<arg|n>|0>|<less|<arg|n>|21>>|<look-up|<tuple|i|ii|iii|iv|v|vi|vii|viii|ix|x|xi|xii|xiii|xiv|xv|xvi|xvii|xviii|xix|xx>|<minus|<arg|n>|1>>|<arg|n>>>>
 
 <assign|:to-Roman|<macro|n|<if|<and|<greater|<arg|n>|0>|<less|<arg|n>|21>>|<look-up|<tuple|I|II|III|IV|V|VI|VII|VIII|IX|X|XI|XII|XIII|XIV|XV|XVI|XVII|XVIII|XIX|XX>|<minus|<arg|n>|1>>|<arg|n>>>>
-
-<assign|hide-preamble|<macro|x|<with|:hidden|<arg|x>|>>>
-
-<assign|show-preamble|<macro|x|<arg|x>>>

@@ -74,7 +74,7 @@
 
 <assign|:big-.|>
 
-<assign|big|<macro|x|<if|<provides|<merge|:big-|<quote-arg|x>>>|<value|<merge|:big-|<quote-arg|x>>>|<eval|<value|?x>>>>>
+<assign|big|<macro|x|<if|<equal|<get-arity|<quote-arg|x>>|0>|<if|<provides|<merge|:big-|<quote-arg|x>>>|<value|<merge|:big-|<quote-arg|x>>>|<arg|x>>|<eval|<value|?x>>>>>
 
 <assign|:wide-^|\<#302\>>
 
@@ -108,9 +108,9 @@
 
 <assign|neg|<macro|x|<eval|<value|?x>>\<#338\>>>
 
-<assign|above|<macro|x|y|<eval|<value|?x>>^(<eval|<value|?y>>)>>
+<assign|above|<macro|x|y|<eval|<value|?x>>^<eval|<value|:in-brackets-y>>>>
 
-<assign|below|<macro|x|y|<eval|<value|?x>>_(<eval|<value|?y>>)>>
+<assign|below|<macro|x|y|<eval|<value|?x>>_<eval|<value|:in-brackets-y>>>>
 
 <assign|binom|<macro|x|y|(<eval|<value|?x>> over <eval|<value|?y>>)>>
 

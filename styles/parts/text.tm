@@ -86,29 +86,33 @@
 
 <assign|protected|<value|abbr>>
 
-<assign|really-tiny|<macro|x|<with|font-size|small|<arg|x>>>>
+<assign|really-tiny|<value|abbr>>
 
-<assign|tiny|<value|really-tiny>>
+<assign|tiny|<value|abbr>>
 
-<assign|very-small|<value|really-tiny>>
+<assign|very-small|<value|abbr>>
 
-<assign|small|<value|really-tiny>>
+<assign|small|<value|abbr>>
 
-<assign|smaller|<value|really-tiny>>
+<assign|smaller|<value|abbr>>
 
-<assign|normal-size|<macro|x|<with|font-size|normal|<arg|x>>>>
+<assign|normal-size|<value|abbr>>
 
-<assign|normal|<value|normal-size>>
+<assign|normal|<value|abbr>>
 
-<assign|large|<macro|x|<with|font-size|large|<arg|x>>>>
+<assign|large|<value|abbr>>
 
-<assign|larger|<value|large>>
+<assign|larger|<value|abbr>>
 
-<assign|very-large|<value|large>>
+<assign|very-large|<value|abbr>>
 
-<assign|huge|<value|large>>
+<assign|huge|<value|abbr>>
 
-<assign|really-huge|<value|large>>
+<assign|really-huge|<value|abbr>>
+
+<assign|show-preamble|<value|abbr>>
+
+<assign|hide-preamble|<macro|x|<with|:hidden|<eval|<value|?x>>|>>>
 
 <assign|quotation|<macro|x|<with|par-left|<plus|<value|par-left>|4spc>|par-right|<plus|<value|par-right>|4spc>|par-first|0mcell|<arg|x>>>>
 
