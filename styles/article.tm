@@ -387,6 +387,7 @@
 <assign|draw-over|<value|graphics>>
 <assign|:float|<quote|<document|<with|par-mode|center|par-first|0mcell|<eval|<value|?x>>>|<with|par-mode|center|par-first|0mcell|<strong|<value|:name>. ><eval|<value|:flat-y>>>>>>
 <assign|big-figure|<macro|x|y|<assign|figure-nr|<plus|<value|figure-nr>|1>><assign|the-label|<merge|<value|:prefix>|<value|figure-nr>>><with|:name|<merge|Figure |<value|the-label>>|<eval|<value|:float>>>>>
+<assign|figure|<value|big-figure>>
 <assign|small-figure|<value|big-figure>>
 <assign|big-figure*|<macro|x|y|<with|:name|Figure|<eval|<value|:float>>>>>
 <assign|small-figure*|<value|big-figure*>>
