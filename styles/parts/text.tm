@@ -1,5 +1,8 @@
 <assign|footnote-nr|0>
-<assign|em|<macro|x|<with|font-shape|<if|<equal|<value|font-shape>|italic>|right|italic>|<if|<equal|<get-arity|<map-args|:one|merge|x>>|0>|<arg|x>|>>>>
+
+# The argument is asked for here, and not by ?x, as em is used most
+<assign|em|<macro|x|<with|font-shape|<if|<equal|<value|font-shape>|italic>|right|italic>|\
+    <if|<equal|<get-arity|<map-args|:one|merge|x>>|0>|<arg|x>|>>>>
 <assign|emph|<value|em>>
 <assign|strong|<macro|x|<with|font-series|bold|<eval|<value|?x>>>>>
 <assign|dfn|<macro|x|<with|font-shape|italic|<eval|<value|?x>>>>>
@@ -21,6 +24,8 @@
 <assign|src-arg|<value|samp>>
 <assign|src-macro|<value|samp>>
 <assign|src-var|<value|samp>>
+
+# What a terminal can only show as it is
 <assign|abbr|<macro|x|<eval|<value|?x>>>>
 <assign|acronym|<value|abbr>>
 <assign|localize|<value|abbr>>
@@ -56,7 +61,10 @@
 <assign|really-huge|<value|abbr>>
 <assign|show-preamble|<value|abbr>>
 <assign|hide-preamble|<macro|x|<with|:hidden|<eval|<value|?x>>|>>>
-<assign|quotation|<macro|x|<with|par-left|<plus|<value|par-left>|4spc>|par-right|<plus|<value|par-right>|4spc>|par-first|0mcell|<arg|x>>>>
+
+# Each of these is a with round its argument and nothing else
+<assign|quotation|<macro|x|<with|par-left|<plus|<value|par-left>|4spc>|par-right|\
+    <plus|<value|par-right>|4spc>|par-first|0mcell|<arg|x>>>>
 <assign|quote-env|<value|quotation>>
 <assign|verse|<value|quotation>>
 <assign|jump-in|<value|quotation>>
@@ -72,7 +80,8 @@
 <assign|indent|<macro|x|<with|par-left|<plus|<value|par-left>|4spc>|<arg|x>>>>
 <assign|indent-left|<value|indent>>
 <assign|indent-right|<macro|x|<with|par-right|<plus|<value|par-right>|4spc>|<arg|x>>>>
-<assign|framed|<macro|x|<with|par-left|<plus|<value|par-left>|2spc>|par-right|<plus|<value|par-right>|2spc>|par-first|0mcell|<arg|x>>>>
+<assign|framed|<macro|x|<with|par-left|<plus|<value|par-left>|2spc>|par-right|\
+    <plus|<value|par-right>|2spc>|par-first|0mcell|<arg|x>>>>
 <assign|ornamented|<value|framed>>
 <assign|shadowed|<value|framed>>
 <assign|padded|<macro|x|<with|par-first|0mcell|<arg|x>>>>
@@ -80,8 +89,12 @@
 <assign|padded-normal|<value|padded>>
 <assign|compressed|<value|padded>>
 <assign|narrow|<value|framed>>
+
+# The gap before each line keeps the spaces at its start
 <assign|:line|<macro|x|i|<document|<concat|<hspace|1spc>|<arg|x>>>>>
-<assign|verbatim|<macro|x|<with|font-family|tt|<if|<equal|<map-args|:one|merge|x>|>|<eval|<value|?x>>|<if|<equal|<get-label|<quote-arg|x>>|document>|<with|par-mode|left|par-left|<plus|<value|par-left>|1spc>|par-first|0mcell|<map-args|:line|concat|x>>|<eval|<value|?x>>>>>>>
+<assign|verbatim|<macro|x|<with|font-family|tt|<if|<equal|<map-args|:one|merge|x>|>|<eval|<value|?x>>|\
+    <if|<equal|<get-label|<quote-arg|x>>|document>|<with|par-mode|left|par-left|\
+    <plus|<value|par-left>|1spc>|par-first|0mcell|<map-args|:line|concat|x>>|<eval|<value|?x>>>>>>>
 <assign|code|<value|verbatim>>
 <assign|verbatim-code|<value|verbatim>>
 <assign|cpp-code|<value|verbatim>>
@@ -95,10 +108,12 @@
 <assign|fortran-code|<value|verbatim>>
 <assign|program|<value|verbatim>>
 <assign|pseudo-code|<value|verbatim>>
-<assign|hlink|<macro|x|y|<with|color|blue|<eval|<value|?x>>><if|<or|<equal|<quote-arg|x>|<quote-arg|y>>|<equal|<quote-arg|y>|<error|missing|y>>>|| [<arg|y>]>>>
+<assign|hlink|<macro|x|y|<with|color|blue|<eval|<value|?x>>>\
+    <if|<or|<equal|<quote-arg|x>|<quote-arg|y>>|<equal|<quote-arg|y>|<error|missing|y>>>|| [<arg|y>]>>>
 <assign|slink|<macro|x|<with|color|blue|<eval|<value|?x>>>>>
 <assign|href|<value|slink>>
-<assign|footnote|<macro|x|<assign|footnote-nr|<plus|<value|footnote-nr>|1>><assign|the-label|<value|footnote-nr>><with|font-shape|right|font-series|medium| [<value|footnote-nr>: <eval|<value|:flat-x>>]>>>
+<assign|footnote|<macro|x|<assign|footnote-nr|<plus|<value|footnote-nr>|1>><assign|the-label|<value|footnote-nr>>\
+    <with|font-shape|right|font-series|medium| [<value|footnote-nr>: <eval|<value|:flat-x>>]>>>
 <assign|marginal-note|<macro|y|z|x|<with|font-series|medium| [<eval|<value|:flat-x>>]>>>
 <assign|todo|<macro|x|<with|color|red|[<eval|<value|?x>>]>>>
 <assign|TeXmacs|<macro|TeXmacs>>
@@ -107,16 +122,24 @@
 <assign|emdash|<macro|\<#2014\>>>
 <assign|nbsp|<macro| >>
 <assign|newblock|<macro| >>
+
+# A gap where the argument is a length, else a space
 <assign|space|<macro|x|<if|<equal|<get-arity|<plus|0spc|<arg|x>>>|0>|<hspace|<arg|x>>| >>>
 <assign|htab|<macro|x|<hspace|4spc>>>
 <assign|new-line|<macro|<next-line>>>
 <assign|line-break-here|<value|new-line>>
 <assign|page-break|<macro|<new-page>>>
+
+# A paragraph begins as its first thing says: here a gap of no cells
 <assign|no-indent|<macro|<with|par-first|0mcell|<hspace|0spc>>>>
 <assign|no-indent*|<value|no-indent>>
 <assign|yes-indent|<macro|<with|par-first|1.5fn|<hspace|0spc>>>>
 <assign|yes-indent*|<value|yes-indent>>
-<assign|hrule|<macro|<with|par-first|0mcell|\<#2500\>\<#2500\>\<#2500\>\<#2500\>\<#2500\>\<#2500\>\<#2500\>\<#2500\>\<#2500\>\<#2500\>\<#2500\>\<#2500\>\<#2500\>\<#2500\>\<#2500\>\<#2500\>\<#2500\>\<#2500\>\<#2500\>\<#2500\>>>>
+<assign|hrule|<macro|<with|par-first|0mcell|\
+    \<#2500\>\<#2500\>\<#2500\>\<#2500\>\<#2500\>\<#2500\>\<#2500\>\<#2500\>\<#2500\>\<#2500\>\
+    \<#2500\>\<#2500\>\<#2500\>\<#2500\>\<#2500\>\<#2500\>\<#2500\>\<#2500\>\<#2500\>\<#2500\>>>>
+
+# What shows nothing
 <assign|index|<xmacro|x|>>
 <assign|subindex|<value|index>>
 <assign|subsubindex|<value|index>>

@@ -1,9 +1,18 @@
 <assign|theorem-nr|0>
 <assign|exercise-nr|0>
 <assign|:tail|>
-<assign|:counted|<quote|<assign|theorem-nr|<plus|<value|theorem-nr>|1>><assign|the-label|<merge|<value|:prefix>|<value|theorem-nr>>><with|:head|<next-line><with|font-series|bold|font-shape|right|<value|:name> <value|the-label>. >|<eval|<value|:run>>>>>
-<assign|:counted-exercise|<quote|<assign|exercise-nr|<plus|<value|exercise-nr>|1>><assign|the-label|<merge|<value|:prefix>|<value|exercise-nr>>><with|:head|<next-line><with|font-series|bold|font-shape|right|<value|:name> <value|the-label>. >|<eval|<value|:run>>>>>
-<assign|:uncounted|<quote|<with|:head|<next-line><with|font-series|bold|font-shape|right|<value|:name>. >|<eval|<value|:run>>>>>
+
+# A block after its :name and number, in each of the two counters, and after its :name alone
+<assign|:counted|<quote|<assign|theorem-nr|<plus|<value|theorem-nr>|1>>\
+    <assign|the-label|<merge|<value|:prefix>|<value|theorem-nr>>>\
+    <with|:head|<next-line><with|font-series|bold|font-shape|right|<value|:name> <value|the-label>. >|\
+    <eval|<value|:run>>>>>
+<assign|:counted-exercise|<quote|<assign|exercise-nr|<plus|<value|exercise-nr>|1>>\
+    <assign|the-label|<merge|<value|:prefix>|<value|exercise-nr>>>\
+    <with|:head|<next-line><with|font-series|bold|font-shape|right|<value|:name> <value|the-label>. >|\
+    <eval|<value|:run>>>>>
+<assign|:uncounted|<quote|<with|:head|<next-line><with|font-series|bold|font-shape|right|<value|:name>. >|\
+    <eval|<value|:run>>>>>
 <assign|theorem|<macro|x|<with|:name|Theorem|font-shape|italic|<eval|<value|:counted>>>>>
 <assign|theorem*|<macro|x|<with|:name|Theorem|font-shape|italic|<eval|<value|:uncounted>>>>>
 <assign|proposition|<macro|x|<with|:name|Proposition|font-shape|italic|<eval|<value|:counted>>>>>
@@ -44,10 +53,13 @@
 <assign|algorithm*|<value|algorithm>>
 <assign|solution|<macro|x|<with|:head|<with|font-shape|italic|Solution. >|par-first|0mcell|<eval|<value|:run>>>>>
 <assign|solution*|<value|solution>>
-<assign|proof|<macro|x|<with|:head|<with|font-shape|italic|Proof. >|:tail| \<#25A1\>|par-first|0mcell|<eval|<value|:run>>>>>
-<assign|proof-of|<macro|y|x|<with|:head|<with|font-shape|italic|<eval|<value|?y>>. >|:tail| \<#25A1\>|par-first|0mcell|<eval|<value|:run>>>>>
+<assign|proof|<macro|x|<with|:head|<with|font-shape|italic|Proof. >|:tail| \<#25A1\>|par-first|0mcell|\
+    <eval|<value|:run>>>>>
+<assign|proof-of|<macro|y|x|<with|:head|<with|font-shape|italic|\
+    <eval|<value|?y>>. >|:tail| \<#25A1\>|par-first|0mcell|<eval|<value|:run>>>>>
 <assign|render-proof|<value|proof-of>>
-<assign|render-theorem|<macro|y|x|<with|:head|<next-line><with|font-series|bold|font-shape|right|<eval|<value|?y>>. >|<eval|<value|:run>>>>>
+<assign|render-theorem|<macro|y|x|<with|:head|<next-line><with|font-series|bold|font-shape|right|\
+    <eval|<value|?y>>. >|<eval|<value|:run>>>>>
 <assign|render-remark|<value|render-theorem>>
 <assign|render-exercise|<value|render-theorem>>
 <assign|render-solution|<value|render-theorem>>

@@ -1,3 +1,4 @@
+# Each part is the lines that it shows, or nothing
 <assign|doc-data|<xmacro|x|<map-args|:each|concat|x><next-line>>>
 <assign|make-title|<value|doc-data>>
 <assign|title-data|<value|doc-data>>
@@ -24,9 +25,14 @@
 <assign|doc-running-author|<value|doc-running-title>>
 <assign|doc-inactive|<value|doc-running-title>>
 <assign|doc-keywords-hidden|<value|doc-running-title>>
-<assign|abstract-data|<xmacro|x|<document|<with|par-mode|center|par-first|0mcell|font-series|bold|Abstract>><map-args|:each|concat|x>>>
-<assign|abstract|<macro|x|<with|par-left|<plus|<value|par-left>|4spc>|par-right|<plus|<value|par-right>|4spc>|par-first|0mcell|<arg|x>>>>
-<assign|:keywords|<quote|<document|<with|par-left|<plus|<value|par-left>|4spc>|par-right|<plus|<value|par-right>|4spc>|par-first|0mcell|<strong|<value|:name>: ><map-args|:listed|concat|x>>>>>
+<assign|abstract-data|<xmacro|x|<document|<with|par-mode|center|par-first|0mcell|font-series|bold|Abstract>>\
+    <map-args|:each|concat|x>>>
+<assign|abstract|<macro|x|<with|par-left|<plus|<value|par-left>|4spc>|par-right|\
+    <plus|<value|par-right>|4spc>|par-first|0mcell|<arg|x>>>>
+
+# A line of the abstract: :name in bold, and the arguments
+<assign|:keywords|<quote|<document|<with|par-left|<plus|<value|par-left>|4spc>|par-right|\
+    <plus|<value|par-right>|4spc>|par-first|0mcell|<strong|<value|:name>: ><map-args|:listed|concat|x>>>>>
 <assign|abstract-keywords|<xmacro|x|<with|:name|Keywords|<eval|<value|:keywords>>>>>
 <assign|abstract-msc|<xmacro|x|<with|:name|A.M.S. subject classification|<eval|<value|:keywords>>>>>
 <assign|abstract-acm|<xmacro|x|<with|:name|ACM subject classification|<eval|<value|:keywords>>>>>
