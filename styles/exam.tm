@@ -275,12 +275,13 @@
 <assign|TeX|<macro|TeX>>
 <assign|LaTeX|<macro|LaTeX>>
 <assign|emdash|<macro|\<#2014\>>>
-<assign|nbsp|<macro| >>
+<assign|nbsp|<macro|\<nbsp\>>>
 <assign|newblock|<macro| >>
 <assign|space|<macro|x|<if|<equal|<get-arity|<plus|0spc|<arg|x>>>|0>|<hspace|<arg|x>>| >>>
 <assign|htab|<macro|x|<hspace|4spc>>>
 <assign|new-line|<macro|<next-line>>>
 <assign|line-break-here|<value|new-line>>
+<assign|line-break|<macro|\<#200B\>>>
 <assign|page-break|<macro|<new-page>>>
 <assign|no-indent|<macro|<with|par-first|0mcell|<hspace|0spc>>>>
 <assign|no-indent*|<value|no-indent>>
@@ -300,7 +301,6 @@
 <assign|footnotemark|<value|index>>
 <assign|locus-id|<value|index>>
 <assign|vspace*|<value|index>>
-<assign|line-break|<value|index>>
 <assign|no-break|<value|index>>
 <assign|no-break-here|<value|index>>
 <assign|no-page-break|<value|index>>
@@ -317,8 +317,8 @@
 <assign|equation*|<macro|x|<with|par-mode|center|par-first|0mcell|mode|math|<arg|x>>>>
 <assign|displayed-math|<value|equation*>>
 <assign|math|<macro|x|<with|mode|math|<if|<equal|<get-arity|<map-args|:one|merge|x>>|0>|<arg|x>|>>>>
-<assign|:in-brackets-x|<quote|<if|<equal|<map-args|:one|merge|x>|>|<if|<or|<equal|<length|<quote-arg|x>>|1>|<equal|<get-arity|<plus|0|<quote-arg|x>>>|0>>|<arg|x>|(<eval|<value|?x>>)>|(<eval|<value|?x>>)>>>
-<assign|:in-brackets-y|<quote|<if|<equal|<map-args|:one|merge|y>|>|<if|<or|<equal|<length|<quote-arg|y>>|1>|<equal|<get-arity|<plus|0|<quote-arg|y>>>|0>>|<arg|y>|(<eval|<value|?y>>)>|(<eval|<value|?y>>)>>>
+<assign|:in-brackets-x|<quote|<if|<equal|<map-args|:one|merge|x>|>|<if|<or|<lesseq|<length|<quote-arg|x>>|1>|<equal|<get-arity|<plus|0|<quote-arg|x>>>|0>>|<arg|x>|(<arg|x>)>|<if|<equal|<get-arity|<map-args|:one|merge|x>>|0>|(<arg|x>)|>>>>
+<assign|:in-brackets-y|<quote|<if|<equal|<map-args|:one|merge|y>|>|<if|<or|<lesseq|<length|<quote-arg|y>>|1>|<equal|<get-arity|<plus|0|<quote-arg|y>>>|0>>|<arg|y>|(<arg|y>)>|<if|<equal|<get-arity|<map-args|:one|merge|y>>|0>|(<arg|y>)|>>>>
 <assign|rsub|<macro|x|_<eval|<value|:in-brackets-x>>>>
 <assign|lsub|<value|rsub>>
 <assign|rsup|<macro|x|^<eval|<value|:in-brackets-x>>>>

@@ -9,11 +9,12 @@
 
 # In brackets, where it is neither a number nor one sign
 <assign|:in-brackets-x|<quote|<if|<equal|<map-args|:one|merge|x>|>|\
-    <if|<or|<equal|<length|<quote-arg|x>>|1>|<equal|<get-arity|<plus|0|<quote-arg|x>>>|0>>|\
-    <arg|x>|(<eval|<value|?x>>)>|(<eval|<value|?x>>)>>>
+    <if|<or|<lesseq|<length|<quote-arg|x>>|1>|<equal|<get-arity|<plus|0|<quote-arg|x>>>|0>>|<arg|x>|(<arg|x>)>|\
+    <if|<equal|<get-arity|<map-args|:one|merge|x>>|0>|(<arg|x>)|>>>>
 <assign|:in-brackets-y|<quote|<if|<equal|<map-args|:one|merge|y>|>|\
-    <if|<or|<equal|<length|<quote-arg|y>>|1>|<equal|<get-arity|<plus|0|<quote-arg|y>>>|0>>|\
-    <arg|y>|(<eval|<value|?y>>)>|(<eval|<value|?y>>)>>>
+    <if|<or|<lesseq|<length|<quote-arg|y>>|1>|<equal|<get-arity|<plus|0|<quote-arg|y>>>|0>>|<arg|y>|(<arg|y>)>|\
+    <if|<equal|<get-arity|<map-args|:one|merge|y>>|0>|(<arg|y>)|>>>>
+
 <assign|rsub|<macro|x|_<eval|<value|:in-brackets-x>>>>
 <assign|lsub|<value|rsub>>
 <assign|rsup|<macro|x|^<eval|<value|:in-brackets-x>>>>

@@ -120,7 +120,7 @@
 <assign|TeX|<macro|TeX>>
 <assign|LaTeX|<macro|LaTeX>>
 <assign|emdash|<macro|\<#2014\>>>
-<assign|nbsp|<macro| >>
+<assign|nbsp|<macro|\<nbsp\>>>
 <assign|newblock|<macro| >>
 
 # A gap where the argument is a length, else a space
@@ -128,6 +128,7 @@
 <assign|htab|<macro|x|<hspace|4spc>>>
 <assign|new-line|<macro|<next-line>>>
 <assign|line-break-here|<value|new-line>>
+<assign|line-break|<macro|\<#200B\>>>
 <assign|page-break|<macro|<new-page>>>
 
 # A paragraph begins as its first thing says: here a gap of no cells
@@ -153,7 +154,6 @@
 <assign|footnotemark|<value|index>>
 <assign|locus-id|<value|index>>
 <assign|vspace*|<value|index>>
-<assign|line-break|<value|index>>
 <assign|no-break|<value|index>>
 <assign|no-break-here|<value|index>>
 <assign|no-page-break|<value|index>>
