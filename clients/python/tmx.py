@@ -240,7 +240,7 @@ class Tree:
             todo += reversed([((*path, i), child) for i, child in enumerate(tree.children)])
 
     def __eq__(self, other: object) -> bool:
-        return self.print() == other.print() if isinstance(other, Tree) else NotImplemented
+        return isinstance(other, Tree) and self.print() == other.print()
 
     def __hash__(self) -> int:
         return hash(self.print())
@@ -506,6 +506,9 @@ def _wait(poll: select.poll, deadline: Optional[float]) -> None:
 
 # Documents
 
+_LAST_LINES = (b"input", b"memory", b"script-long")
+"""After one of these lines, which are no replies, the program ends with status 6, 8 or 9."""
+
 _SHOW = re.compile(rb"pages ([0-9]+) rows ([0-9]+)")
 _ERRORS = re.compile(rb"errors ([0-9]+)")
 _PAGE = re.compile(rb"page ([0-9]{1,10})")
@@ -571,7 +574,7 @@ class Document:
         return self._program.sent
 
     @property
-    def left(self) -> int:
+    def remaining(self) -> int:
         """How many bytes of commands the program still takes."""
         return max(0, SCRIPT_LIMIT - self._program.sent)
 
@@ -606,6 +609,8 @@ class Document:
         """A reply of one line, or one whose first line says how many follow."""
         self._send(line)
         first = self._line()
+        if first in _LAST_LINES:
+            self._line()
         count = _SHOW.fullmatch(first) or _ERRORS.fullmatch(first)
         return [first] + [self._line() for _ in range(sum(map(int, count.groups())) if count else 0)]
 
@@ -643,7 +648,8 @@ class Document:
         line = self._program.line(self._deadline)
         if line is None:
             status = self._program.finish(self.timeout)
-            self._ended = Ended(status, _status_line(self._last) if status in (6, 8, 9) else None)
+            told = bool(self._last) and self._last[0] in _LAST_LINES
+            self._ended = Ended(status, _status_line(self._last) if told else None)
             raise self._ended
         self._last = [line]
         return line
@@ -934,7 +940,7 @@ def _body_path(tree: Tree) -> Path:
 def _markup(row: str, runs: List[Run]) -> str:
     """A row in HTML. Where its columns aren't those of the runs, it is plain."""
     clusters = _clusters(row)
-    edges = {column for column, _ in clusters} | {sum(map(_width, row))}
+    edges = {column for column, _ in clusters} | {column + _cluster_width(cluster) for column, cluster in clusters}
     if not all(run.first in edges and run.last in edges for run in runs):
         return html.escape(row)
     looks = [(_look(column, runs), cluster) for column, cluster in clusters]
@@ -970,8 +976,12 @@ def _clusters(row: str) -> List[Tuple[int, str]]:
             clusters[-1] = (start, cluster + character)
         else:
             clusters.append((column, character))
-        column = clusters[-1][0] + min(2, sum(map(_width, clusters[-1][1])))
+        column = clusters[-1][0] + _cluster_width(clusters[-1][1])
     return clusters
+
+
+def _cluster_width(cluster: str) -> int:
+    return min(2, sum(map(_width, cluster)))
 
 
 def _continues(cluster: str, character: str) -> bool:
