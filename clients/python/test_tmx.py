@@ -165,6 +165,8 @@ class Trees(unittest.TestCase):
         """The rows of bytes in the Scheme syntax."""
         count = 0
         for row in _rows(("read", "judge"), "scheme"):
+            if len(row.asked.text()) > 200000:
+                continue
             try:
                 reply = Tree.parse(row.asked.text()).print()
                 reply = b"tree" if row.kind == "judge" else reply
@@ -191,7 +193,7 @@ class Trees(unittest.TestCase):
 
 class Commands(InFolder):
     def test_edits(self) -> None:
-        for edit, after in [
+        edits: List[Tuple[Callable[[tmx.Document], None], str]] = [
             (lambda doc: doc.assign("/1", "x"), '(document "abc" "x")'),
             (lambda doc: doc.insert("/0", 1, "xy"), '(document "axybc" (em "d"))'),
             (lambda doc: doc.insert([], 1, node("tuple", "p", "q")), '(document "abc" "p" "q" (em "d"))'),
@@ -202,7 +204,8 @@ class Commands(InFolder):
             (lambda doc: doc.assign_node("/1", "strong"), '(document "abc" (strong "d"))'),
             (lambda doc: doc.insert_node((0,), 1, node("f", "x", "y")), '(document (f "x" "abc" "y") (em "d"))'),
             (lambda doc: doc.remove_node("/1", 0), '(document "abc" "d")'),
-        ]:
+        ]
+        for edit, after in edits:
             with self.open('(document "abc" (em "d"))') as doc:
                 edit(doc)
                 self.assertEqual(doc.tree(), Tree.parse(after))
@@ -395,19 +398,13 @@ class Refusals(InFolder):
             self.assertEqual(self.refused(lambda: doc.save("x.tm")), "no form")
 
     def test_file_long(self) -> None:
-        wide = node("f", *[node("a" * 64)] * 63000)
-        with self.open('(document "" "" "" "")') as doc:
-            for child in range(4):
-                for piece in range(5):
-                    self.assertEqual(doc.ask(b"assign /%d %s" % (child, node("f").print())), [b"ok"])
-                    break
-                for start in range(0, 63000, 12600):
-                    part = node("tuple", *wide.children[start:start + 12600])
-                    doc.insert([child], start, part)
-                self.assertLess(doc.sent, tmx.SCRIPT_LIMIT)
-                if doc.remaining < 5 << 20:
-                    break
-            self.assertIsNone(doc.process.poll())
+        leaf = node("a" * 64)
+        wide = node("f", *[leaf] * 63000)
+        with self.open(node("document", wide, wide, wide, node("f")).print()) as doc:
+            for start in range(0, 63000, 12600):
+                doc.insert("/3", start, node("tuple", *[leaf] * 12600))
+            self.assertEqual(self.refused(lambda: doc.save("x.scm")), "no file-long 16884027")
+            self.assertFalse(os.path.exists("x.scm"))
 
     @unittest.skipUnless(hasattr(resource, "prlimit"), "needs a limit on another process")
     def test_memory(self) -> None:
@@ -556,15 +553,17 @@ class Names(InFolder):
             with self.open('(document "here")', name) as doc:
                 self.assertEqual(doc.show(), [tmx.Page(1, ["here"])])
         self.assertFalse(os.path.exists("p"))
-        with self.open("here", ".scm") as doc:
+        with self.open('(document "here")', ".scm") as doc:
             self.assertEqual(doc.tree().print(), b'(document "here")')
         pathlib.Path("p.scm").write_text('(document "a")')
         with tmx.open(pathlib.Path("p.scm"), [b"x/y z/w.scm"], program=pathlib.Path(PROGRAM), timeout=LIMIT) as doc:
             doc.at("w")
 
     def test_buffer_names(self) -> None:
-        for file, name in [("d.scm", "d"), ("a/b.c.scm", "b.c"), (".scm", ".scm"), ("a.b/c", "c"), (b"x/.a.b", ".a"),
-                           (pathlib.Path("/a/b.tm"), "b")]:
+        names: List[Tuple[tmx.FileName, str]] = [
+            ("d.scm", "d"), ("a/b.c.scm", "b.c"), (".scm", ".scm"), ("a.b/c", "c"), (b"x/.a.b", ".a"),
+            (pathlib.Path("/a/b.tm"), "b")]
+        for file, name in names:
             self.assertEqual(tmx.buffer_name(file), name)
             if isinstance(file, str):
                 with self.open('(document "a")' if file.endswith(".scm") else "a", file) as doc:
@@ -813,7 +812,7 @@ class CommandLine(InFolder):
 
     def test_text(self) -> None:
         self.write("d.scm", '(document "a “b” page" (concat "c" (new-page) "") "page 2")'.encode("latin-1", "replace"))
-        self.assertEqual(self.run_module("d.scm", "--text")[:2], (0, "a ?b? page\nc\n\npage 2\n"))
+        self.assertEqual(self.run_module("d.scm", "--text")[:2], (0, "a ?b? page\nc\npage 2\n"))
         self.write("s.scm", '(document (assign "hi" (macro "x" (concat "Hi " (arg "x")))))')
         self.write("e.scm", '(document (style "s") (body (document (hi "<alpha> longer than twenty"))))')
         self.assertEqual(self.run_module("e.scm", "--text", "--width", "20", "s.scm")[:2], (0, "Hi α longer than\ntwenty\n"))

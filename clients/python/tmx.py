@@ -342,10 +342,13 @@ def _parse_string(data: bytes, at: int) -> Tuple[bytes, int]:
 
 def _check_limits(tree: Tree) -> None:
     longest = widest = deepest = size = 0
-    for path, part in tree.walk():
+    todo = [(tree, 1)]
+    while todo:
+        part, depth = todo.pop()
         length = len(part.text or b"")
         longest, size = max(longest, length), size + 1 + length
-        widest, deepest = max(widest, len(part.children)), max(deepest, len(path) + 1)
+        widest, deepest = max(widest, len(part.children)), max(deepest, depth)
+        todo += [(child, depth + 1) for child in part.children]
     for which, number, limit in (("text", longest, 1048575), ("arity", widest, 65535), ("depth", deepest, 400),
                                  ("size", size, 8000000)):
         if number > limit:
