@@ -450,9 +450,9 @@ The path is as a command has it, and the detail may be empty."
                 "   Few commands are left: save, and open anew with g"
               ""))))
 
-(defun tmx--put-faces (runs)
-  "Give cells of the present line their faces, as RUNS has them."
-  (pcase-dolist (`(,first ,last ,series ,shape ,color) runs)
+(defun tmx--put-faces (spans)
+  "Give the cells SPANS of the present line their faces."
+  (pcase-dolist (`(,first ,last ,series ,shape ,color) spans)
     (let ((face (tmx--face series shape color)))
       (when face
         (put-text-property (progn (move-to-column first) (point))

@@ -84,7 +84,7 @@ _SPELLINGS: Dict[str, bytes] = {
 }
 
 _ITEM = re.compile(rb"[^\t\n\r<>]|<([!-;=?-~]{1,255})>")
-_TEXT = re.compile(rb"(?:[^\t\n\r<>]|<[!-;=?-~]{1,255}>)*")
+_TEXT = re.compile(rb"(?:[^\t\n\r<>]+|<[!-;=?-~]{1,255}>)*")
 _LABEL = re.compile(r"[A-Za-z0-9\-_+*:.?!=~@$%&^]{1,64}")
 
 
@@ -193,7 +193,7 @@ class Tree:
     def __post_init__(self) -> None:
         if (self.text is None) == (self.label is None) or (self.text is not None and self.children):
             raise ValueError("a tree is a text, or a label with children")
-        if self.text is not None and not _TEXT.fullmatch(self.text):
+        if self.text is not None and _matched(_TEXT, self.text, 0) < len(self.text):
             raise ValueError(f"no text: {self.text[:80]!r}")
         if self.label is not None and not _LABEL.fullmatch(self.label):
             raise ValueError(f"no label: {self.label[:80]!r}")
@@ -270,9 +270,8 @@ def _tree(value: TreeLike) -> Tree:
 _WHITE = re.compile(rb"[\t\n\r ]*")
 _LABEL_BYTES = re.compile(rb"[A-Za-z0-9\-_+*:.?!=~@$%&^]*")
 _NAME_BYTE = rb'(?:[!#-;=?-\[\]-~]|\\["\\])'
-_STRING = re.compile(rb'(?:[^"\\<>\t\n\r]|\\["\\]|<' + _NAME_BYTE + rb"{1,255}>)*")
+_STRING = re.compile(rb'(?:[^"\\<>\t\n\r]+|\\["\\]|<' + _NAME_BYTE + rb"{1,255}>)*")
 _OPEN_SYMBOL = re.compile(rb"<(" + _NAME_BYTE + rb"{0,255})")
-_ESCAPE = re.compile(rb'\\(["\\])')
 
 
 def _parsed(data: bytes) -> Tree:
@@ -326,9 +325,9 @@ def _parse_label(data: bytes, at: int) -> Tuple[str, int]:
 def _parse_string(data: bytes, at: int) -> Tuple[bytes, int]:
     end = _matched(_STRING, data, at)
     if data[end:end + 1] == b'"':
-        return _ESCAPE.sub(rb"\1", data[at:end]), end + 1
+        return _unescaped(data[at:end]), end + 1
     symbol = _OPEN_SYMBOL.match(data, end)
-    full = symbol is not None and len(_ESCAPE.sub(rb"\1", symbol[1])) == 255
+    full = symbol is not None and len(_unescaped(symbol[1])) == 255
     if symbol is not None:
         end = symbol.end()
     if end == len(data):
@@ -338,6 +337,10 @@ def _parse_string(data: bytes, at: int) -> Tuple[bytes, int]:
     if end + 1 == len(data):
         raise ParseFault("unclosed", end + 1)
     raise ParseFault("bad-escape", end + 1)
+
+
+def _unescaped(data: bytes) -> bytes:
+    return b"\\".join(piece.replace(b'\\"', b'"') for piece in data.split(b"\\\\"))
 
 
 def _check_limits(tree: Tree) -> None:
