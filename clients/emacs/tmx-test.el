@@ -135,8 +135,8 @@
       (should (equal (tmx-command session "enter") '("ok")))
       (should (string-prefix-p "work " (car (tmx-command session "work"))))
       (should (equal (tmx-command session "at" "a") '("ok")))
-      (should (equal (tmx-command session "save" "b.tm") '("saved 32")))
-      (should (equal (tmx-test-read "b.tm") "a\n\nn <em|important> note\n\n<g>\n"))
+      (should (equal (tmx-command session "save" "b.tm") '("saved 39")))
+      (should (equal (tmx-test-read "b.tm") "<concat|a>\n\nn <em|important> note\n\n<g>\n"))
       (tmx-end session))))
 
 ;;;; Refusals
@@ -144,7 +144,8 @@
 (ert-deftest tmx-test-refusals ()
   (tmx-test-session session "(document \"a<beta>b\" (em \"c\"))"
     (pcase-dolist (`(,line ,reply)
-                   '(("shw" "no unknown") ("show 1" "no args 4") ("page 4294967296" "no args 14") ("page x" "no args 5")
+                   '(("shw" "no unknown") ("show 1" "no args 4") ("page 4294967296" "no args 14")
+                     ("page x" "no args 5")
                      ("attrs" "no args 5") ("attrs x" "no args 6") ("errors x" "no args 6") ("quit now" "no args 4")
                      ("assign 0 \"x\"" "no path 7") ("go /1/" "no path 6") ("assign /0 (em \"c\"" "no tree unclosed 17")
                      ("assign /0 (f a)" "no tree stray 13") ("assign /0 \"\\n\"" "no tree bad-escape 12")
@@ -153,11 +154,12 @@
                      ("assign /5 \"x\"" "no path-end 0") ("insert /0 0 (em)" "no not-string")
                      ("insert /1 0 \"x\"" "no not-node") ("insert /0 9 \"x\"" "no bad-place 8") ("join / 0" "no differ")
                      ("go /0/3" "no cuts-symbol 3") ("backspace" "no start") ("left" "no start")
-                     ("where 9 0" "no cell 2 80") ("attrs 9" "no cell 2 80") ("page 0" "no page 1") ("page 2" "no page 1")
+                     ("where 9 0" "no cell 2 80") ("attrs 9" "no cell 2 80") ("page 0" "no page 1")
+                     ("page 2" "no page 1")
                      ("save none/x.tm" "no store") ("type (f)" "no args 5")))
       (tmx-test-refused session line reply))
     (should (equal (tmx-test-signal (lambda () (tmx-command session "left"))) '(tmx-refused "no start")))
-    (should (equal (error-message-string '(tmx-refused "no start")) "Refused: no start")))
+    (should (equal (error-message-string '(tmx-refused "no start")) "Refused: \"no start\"")))
   (tmx-test-session session "(document \"a\" (em \"c\"))"
     (tmx-command session "go" "/1/0/1")
     (tmx-test-refused session "right" "no end")
@@ -278,10 +280,117 @@
         (should (equal (tmx-show session) '(("here"))))
         (tmx-end session)))))
 
+;;;; Sessions of row files
+
+(defun tmx-test-unescape (text)
+  "Return the bytes that TEXT with escapes stands for."
+  (replace-regexp-in-string
+   "\\\\\\(x[0-9a-f][0-9a-f]\\|.\\)"
+   (lambda (escape)
+     (pcase (aref escape 1)
+       (?x (unibyte-string (string-to-number (substring escape 2) 16)))
+       (?n "\n") (?r "\r") (?t "\t") (?s " ") (?\\ "\\")))
+   text t t))
+
+(defun tmx-test-add-line (text rest)
+  "Return TEXT, which may be nil, with what stands after a mark, REST, put to it."
+  (if (string-match "\\`\\*\\([0-9]+\\) \\(\\(?:.\\|\n\\)*\\)\\'" rest)
+      (let ((count (string-to-number (match-string 1 rest)))
+            (piece (tmx-test-unescape (match-string 2 rest))))
+        (concat text (apply #'concat (make-list count piece))))
+    (concat text (and text "\n")
+            (cond ((string-prefix-p "\\ " rest) (tmx-test-unescape (substring rest 2)))
+                  ((equal rest "") "")
+                  (t (substring rest 1))))))
+
+(defun tmx-test-rows (file)
+  "Return the sessions of the row FILE: words, files and script of each.
+Sessions with large repetitions are left out."
+  (let (rows kind words files script large)
+    (dolist (line (append (split-string (tmx-test-read file) "\n") '("")))
+      (let ((rest (if (equal line "") "" (substring line 1))))
+        (cond ((equal line "")
+               (when (and (equal kind "run") (or files script) (not large))
+                 (push (list words (nreverse files) (or script "")) rows))
+               (setq files nil script nil large nil))
+              ((string-match-p "\\`.\\*[0-9]\\{5,\\}" line)
+               (setq large t))
+              ((memq (aref line 0) '(?# ?<)))
+              ((eq (aref line 0) ?|)
+               (when files
+                 (setcdr (car files) (tmx-test-add-line (cdar files) rest))))
+              ((eq (aref line 0) ?>)
+               (when (equal kind "run")
+                 (setq script (tmx-test-add-line script rest))))
+              ((string-match "\\`file \\(.*\\)" line)
+               (push (cons (decode-coding-string (match-string 1 line) 'utf-8) nil) files))
+              ((string-prefix-p "saved " line))
+              (t
+               (setq kind (car (split-string line " "))
+                     words (cdr (split-string line " " t)))))))
+    (nreverse rows)))
+
+(defun tmx-test-plain-row-p (row)
+  "Return whether ROW has words as of `tmx-start', and a script of plain lines."
+  (pcase-let ((`(,words _ ,script) row))
+    (and words
+         (not (cl-some (lambda (word) (string-match-p "\\`-\\|\"\\|:" word)) words))
+         (< (length script) 1000000)
+         (not (string-match-p "\r\r" script)))))
+
+(defun tmx-test-piped (words script)
+  "Return what the program with WORDS writes where SCRIPT is its input."
+  (with-temp-buffer
+    (set-buffer-multibyte nil)
+    (insert script)
+    (let ((coding-system-for-read 'binary)
+          (coding-system-for-write 'binary))
+      (apply #'call-process-region nil nil tmx-program t t nil words))
+    (buffer-string)))
+
+(defun tmx-test-asked (words script)
+  "Return the replies to the lines of SCRIPT in a session with the files WORDS."
+  (let (replies session)
+    (condition-case problem
+        (progn
+          (setq session (tmx-start (car words) (cdr words)))
+          (cl-loop for line in (split-string script "\n")
+                   until (equal line "quit")
+                   unless (member line '("" "\r"))
+                   do (setq replies (append (reverse (tmx-ask session (string-remove-suffix "\r" line)))
+                                            replies))))
+      (tmx-ended (push (nth 2 problem) replies)))
+    (when session
+      (tmx-end session))
+    (mapconcat (lambda (reply) (concat reply "\n")) (nreverse replies) "")))
+
+(ert-deftest tmx-test-sessions ()
+  (let ((folder (file-name-as-directory
+                 (expand-file-name (or (getenv "TMX_ROWS") "../../crates/tx_rows/data"))))
+        (count 0))
+    (skip-unless (file-directory-p folder))
+    (dolist (file (directory-files folder t "\\.rows\\'"))
+      (unless (string-suffix-p "wrong.rows" file)
+        (dolist (row (cl-remove-if-not #'tmx-test-plain-row-p (tmx-test-rows file)))
+          (cl-incf count)
+          (pcase-let ((`(,words ,files ,script) row))
+            (cl-flet ((tried (session)
+                        (tmx-test-in-folder
+                          (pcase-dolist (`(,name . ,text) files)
+                            (tmx-test-write name (or text "")))
+                          (funcall session words script))))
+              (let ((piped (tried #'tmx-test-piped))
+                    (asked (tried #'tmx-test-asked)))
+                (unless (equal (string-to-multibyte piped) (string-to-multibyte asked))
+                  (ert-fail (list (file-name-nondirectory file) words script piped asked)))))))))
+    (message "%d sessions of row files" count)
+    (should (> count 100))))
+
 ;;;; The mode
 
 (ert-deftest tmx-test-mode-shows-a-page ()
-  (tmx-test-buffer "(document \"plain\" (concat (em \"i\") (strong \"b\") (with \"color\" \"red\" \"<#4E2D>\") \"x\") (g))"
+  (tmx-test-buffer (concat "(document \"plain\" (concat (em \"i\") (strong \"b\")"
+                           " (with \"color\" \"red\" \"<#4E2D>\") \"x\") (g))")
     (should (eq major-mode 'tmx-mode))
     (should buffer-read-only)
     (should-not (buffer-modified-p))
@@ -311,7 +420,8 @@
 
 (ert-deftest tmx-test-mode-pages ()
   (let ((tmx-height 5))
-    (tmx-test-buffer (concat "(document" (apply #'concat (cl-loop for i below 12 collect (format " \"row %d\"" i))) ")")
+    (tmx-test-buffer (format "(document %s)" (mapconcat (lambda (i) (format "\"row %d\"" i))
+                                                        (number-sequence 0 11) " "))
       (should (equal header-line-format "Page 1 of 3"))
       (tmx-next-page)
       (should (looking-at "row 5\n"))

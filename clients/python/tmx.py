@@ -991,7 +991,7 @@ def _cluster_width(cluster: str) -> int:
 
 
 def _continues(cluster: str, character: str) -> bool:
-    """Whether the character goes on with the cluster: an accent, what is joined, a skin colour, a flag's second half."""
+    """Whether the character goes on with the cluster: an accent, a joined one, a skin colour, half of a flag."""
     if _width(character) == 0 or unicodedata.category(character) == "Mc" or cluster.endswith("\u200d"):
         return True
     if "\U0001F3FB" <= character <= "\U0001F3FF":
