@@ -354,11 +354,11 @@ Sessions with large repetitions are left out."
     (condition-case problem
         (progn
           (setq session (tmx-start (car words) (cdr words)))
-          (cl-loop for line in (split-string script "\n")
+          (cl-loop for ended in (split-string script "\n")
+                   for line = (string-remove-suffix "\r" ended)
                    until (equal line "quit")
-                   unless (member line '("" "\r"))
-                   do (setq replies (append (reverse (tmx-ask session (string-remove-suffix "\r" line)))
-                                            replies))))
+                   unless (equal line "")
+                   do (setq replies (append (reverse (tmx-ask session line)) replies))))
       (tmx-ended (push (nth 2 problem) replies)))
     (when session
       (tmx-end session))
@@ -522,6 +522,8 @@ Sessions with large repetitions are left out."
   (tmx-test-buffer "(document \"a\")"
     (signal-process (tmx-session-process tmx--session) 'SIGKILL)
     (should-error (progn (sleep-for 0.2) (tmx-right)) :type 'user-error)
+    (should-error (tmx-edit-mode) :type 'user-error)
+    (should-not tmx-edit-mode)
     (revert-buffer t t)
     (tmx-right)
     (should (= (point) 2))))

@@ -184,8 +184,10 @@ Where it refuses them, all that it writes is the line of its status."
 
 (defun tmx--whole-reply (session function)
   "Call FUNCTION, and end SESSION's program where that doesn't return.
-So what is left of a reply is never taken for another one."
-  (let (whole)
+So what is left of a reply is never taken for another one.  Quitting has
+to wait, since it would end the program and lose the document."
+  (let ((inhibit-quit t)
+        whole)
     (unwind-protect
         (prog1 (funcall function)
           (setq whole t))
@@ -684,8 +686,10 @@ There are no commands for that, so this is a binary search with `where'."
   "Change a TeXmacs document at the cursor.
 \\{tmx-edit-mode-map}"
   :lighter " Edit"
-  (when tmx-edit-mode
-    (tmx--running)))
+  (unless (and tmx--session (tmx-live-p tmx--session))
+    (when tmx-edit-mode
+      (setq tmx-edit-mode nil)
+      (tmx--running))))
 
 ;;;; Files
 

@@ -592,6 +592,10 @@ class Names(InFolder):
                 self.assertTrue(os.path.isfile(name))
             self.assertEqual(self.refused(lambda: doc.save("y" * 256)), "no args 260")
 
+    def test_styles_are_a_list(self) -> None:
+        with self.assertRaises(TypeError):
+            tmx.open(self.write("d.scm", "(document)"), "s.scm", program=PROGRAM)
+
     def test_many_styles(self) -> None:
         styles = [self.write(f"s{i}.scm", f'(document (assign "v{i}" "{i}"))') for i in range(15)]
         names = " ".join(f'"s{i}"' for i in range(15))
@@ -841,7 +845,7 @@ class CommandLine(InFolder):
 
     def test_html(self) -> None:
         self.write("d.scm", '(document (TeXmacs "2.1") (body (document (concat "a " (em "b<less>") (strong "c")) '
-                            '(with "color" "dark green" "<#4E2D>x") (with "color" "\\"><b>" "y") '
+                            '(with "color" "dark green" "<#4E2D>x") (with "color" "red;x:y" "y") '
                             '(itemize (document (concat (item) "p") (concat (item) "q"))))))')
         status, output, _ = self.run_module("d.scm", "--html")
         self.assertEqual(status, 0)

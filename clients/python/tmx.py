@@ -11,7 +11,8 @@
 
 Each method of `Document` is a command of docs/COMMANDS.md. It returns the reply as values. A refused command raises
 `Refused`, and the document is as it was before. A program that ends raises `Ended` with its status. After the time
-limit the program is ended and `TimedOut` is raised.
+limit the program is ended and `TimedOut` is raised. The program is also ended where an interrupt comes before the whole
+reply has been read.
 
 A text of a document has bytes of its own. `encode` and `decode` convert them from and to Unicode. Where a method takes
 a text or a tree, a `str` is a text in Unicode, `bytes` are a text in the document's bytes, and a `Tree` is a tree.
@@ -533,6 +534,8 @@ def open(file: FileName, styles: Iterable[FileName] = (), width: int = 80, heigh
     None is no limit. Raises Ended where the program refuses the files or the sizes, and OSError where there is no such
     program.
     """
+    if isinstance(styles, (str, bytes)):
+        raise TypeError("the styles are a list of files")
     path = os.fsdecode(program) if program is not None else os.environ.get("TMX") or "tmx"
     words = [path, f"--width={width}", f"--height={height}", "--"]
     return Document(words + [_file_word(name) for name in (file, *styles)], height, timeout)
