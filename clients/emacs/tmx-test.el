@@ -71,7 +71,7 @@
     (error problem)))
 
 (defun tmx-test-refused (session line reply)
-  "Check that SESSION answers LINE with REPLY alone."
+  "Check that SESSION's reply to LINE is the one line REPLY."
   (should (equal (list line reply) (cons line (tmx-ask session line)))))
 
 ;;;; Text

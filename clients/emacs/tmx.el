@@ -10,13 +10,13 @@
 ;; it out.  Put this file where Emacs finds it, and into your init file:
 ;;
 ;;   (require 'tmx)
-;;   (add-to-list 'auto-mode-alist '("\\.tm\\'" . tmx-mode))
 ;;
-;; A document opens read-only.  The arrow keys move from stop to stop, the page
-;; keys from page to page, C-c C-l lists the errors, and C-c C-y opens the
-;; document once more with another style file.  C-c C-e begins and ends
-;; editing: then letters, DEL and RET change the document at the cursor, C-/
-;; takes an edit back, and C-x C-s saves.  `g' opens the document anew.
+;; A file whose name ends in .tm then opens in `tmx-mode', read-only.  In a
+;; document the arrow keys move from stop to stop, and the page keys from page
+;; to page.  C-c C-l lists the errors, and C-c C-y opens the document once more
+;; with another style file.  C-c C-e begins and ends editing: then letters, DEL
+;; and RET change the document at the cursor, C-/ takes an edit back, and
+;; C-x C-s saves.  `g' opens the document anew.
 ;;
 ;; The buffer shows a page and doesn't hold the document, which the program
 ;; has.  Lisp programs can start a program of their own with `tmx-start' and
@@ -826,6 +826,9 @@ Where the program doesn't open the file, the buffer keeps the file's text.
     (add-hook 'write-contents-functions #'tmx--save nil t)
     (add-hook 'change-major-mode-hook #'tmx--leave nil t)
     (add-hook 'kill-buffer-hook #'tmx--end nil t)))
+
+;;;###autoload
+(add-to-list 'auto-mode-alist '("\\.tm\\'" . tmx-mode))
 
 (provide 'tmx)
 

@@ -424,7 +424,7 @@ class Refused(TmxError):
 
 
 class Ended(TmxError):
-    """The program has ended, and answers nothing any more.
+    """The program has ended.
 
     `status` is its number, as in `STATUSES`; below 0 it is the signal that ended the program. `line` is the line that
     the status has, as `missing no.tm`, or None.
@@ -447,7 +447,9 @@ class _Program:
     """A running program: bytes to it, and lines from it."""
 
     def __init__(self, words: Sequence[str]) -> None:
-        self.process = subprocess.Popen(words, stdin=subprocess.PIPE, stdout=subprocess.PIPE, bufsize=0)
+        # In a session of its own, so that an interrupt from the terminal doesn't end it.
+        self.process = subprocess.Popen(words, stdin=subprocess.PIPE, stdout=subprocess.PIPE, bufsize=0,
+                                        start_new_session=True)
         assert self.process.stdin is not None and self.process.stdout is not None
         self._stdin, self._stdout = self.process.stdin, self.process.stdout
         self._readable, self._writable = select.poll(), select.poll()
