@@ -1,21 +1,19 @@
 -- The modern form of a tree has as many nodes as the tree, leaves left out.
-use Rattle.std.proofs.Common.{◌≡◌, ℕ, ◌+◌, Bool, true, false, List, refl, sym, ap, ◌∙◌, arith}
+use Rattle.std.proofs.Common.{◌≡◌, ℕ, ◌+◌, Bool, true, false, List, refl, ap, ◌∙◌, arith}
 use Rattle.std.specs.Prelude.{◌&&◌, if◌then◌else◌}
 use Rattle.tx_tree.specs.WideTree.{WideTree, Forest, leaf, node, nil, cons, nodes_of, total_nodes}
 use Rattle.tx_doc.specs.Modern.{is_call, is_label, called, without_calls, all_without_calls, is_old, modern}
 
+by_test : (b : Bool) (u : WideTree) (l text : List ℕ) (ts : Forest) → nodes_of u ≡ 1 + total_nodes ts
+    → nodes_of (if b then u else node l (cons (leaf text) ts)) ≡ 1 + total_nodes (cons (leaf text) ts)
+by_test true u l text ts e = omega (arith, e)
+by_test false u l text ts e = refl
+
 called_nodes : (l : List ℕ) (ts : Forest) → nodes_of (called l ts) ≡ 1 + total_nodes ts
 called_nodes l nil = refl
 called_nodes l (cons (node m us) ts) = refl
-called_nodes l (cons (leaf text) ts) = by (is_call l && is_label text)
-  where
-    more : nodes_of (called text ts) ≡ 1 + total_nodes ts
-    more = called_nodes text ts
-
-    by : (b : Bool)
-        → nodes_of (if b then called text ts else node l (cons (leaf text) ts)) ≡ 1 + total_nodes (cons (leaf text) ts)
-    by true = omega (arith, more)
-    by false = refl
+called_nodes l (cons (leaf text) ts) =
+    by_test (is_call l && is_label text) (called text ts) l text ts (called_nodes text ts)
 
 mutual
   nodes_left : (t : WideTree) → nodes_of (without_calls t) ≡ nodes_of t

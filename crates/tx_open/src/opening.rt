@@ -1,5 +1,6 @@
 // All files that the words name, loaded and read.
-ghost use Rattle.std.specs.Prelude.{◌≡◌, ◌<◌, ◌≤◌, ◌+◌, ◌*◌, ◌^◌, ◌⊎◌, ℕ, List, [], ◌∷◌, map, length, IfOk, IfErr, OnOk};
+ghost use Rattle.std.specs.Prelude.{◌≡◌, ◌<◌, ◌≤◌, ◌+◌, ◌*◌, ◌^◌, ◌⊎◌, ℕ, List, [], ◌∷◌, map, length};
+ghost use Rattle.std.specs.Prelude.{IfOk, IfErr, OnOk};
 ghost use Rattle.std.specs.String.{string_bytes};
 ghost use Rattle.tx_outside.specs.Counts.{Rose};
 ghost use Rattle.tx_outside.specs.Outside.{StoreGoesOn, StoreIsFaultless};
@@ -158,8 +159,8 @@ fn generate<L: Ledger>(
 ///
 /// The first file that isn't there, is too long, spells no tree within the limits, or at which the store fails, is what
 /// it comes to, and no later file is loaded. Faulty words ask nothing of the store, nor do words that memory doesn't
-/// suffice to read. The buffers hold the modern forms of the files' trees (`tx_doc::modern`). Where files are opened, the
-/// steps rise by at most twice the nodes of their trees that aren't leaves: each is read, and may be made modern.
+/// suffice to read. The buffers hold the modern forms of the files' trees (`tx_doc::modern`). Where files are opened,
+/// the steps rise by at most twice the nodes of their trees that aren't leaves: each is read, and may be made modern.
 ///
 /// Where FILE is `gen:number:count`, the document of `tx_generated` is generated and read, as the one buffer `gen`, and
 /// nothing is asked of the store.
