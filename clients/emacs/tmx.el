@@ -250,21 +250,24 @@ to wait, since it would end the program and lose the document."
   "Return the next line of SESSION's reply."
   (let ((line (tmx--next-line session)))
     (unless line
-      (let ((last (tmx-session-last session)))
-        (tmx--signal-end session (and (member last tmx--last-lines)
-                                      (list last)))))
+      (tmx--signal-end session (and (tmx-session-last session)
+                                    (list (tmx-session-last session)))))
     (setf (tmx-session-last session) line)))
 
 (defun tmx--signal-end (session lines)
-  "Signal that SESSION's program has ended, with its status and LINES."
+  "Signal that SESSION's program has ended, with its status and that one's LINES.
+A signal's number stands below 0.  LINES count where the status has a line."
   (let ((process (tmx-session-process session)))
     (while (process-live-p process)
       (tmx--more-output session))
-    (let ((status (process-exit-status process)))
+    (let ((status (if (eq (process-status process) 'signal)
+                      (- (process-exit-status process))
+                    (process-exit-status process))))
       (signal 'tmx-ended
-              (list (if (eq (process-status process) 'signal) (- status) status)
-                    (and lines (decode-coding-string
-                                (string-join lines "\n") 'utf-8)))))))
+              (list status
+                    (and lines (memq status '(2 3 4 5 6 8 9))
+                         (decode-coding-string (string-join lines "\n")
+                                               'utf-8)))))))
 
 (defun tmx-ask (session line)
   "Send LINE to SESSION's program, and return the lines of the reply.
