@@ -255,8 +255,9 @@ to wait, since it would end the program and lose the document."
     (setf (tmx-session-last session) line)))
 
 (defun tmx--signal-end (session lines)
-  "Signal that SESSION's program has ended, with its status and that one's LINES.
-A signal's number stands below 0.  LINES count where the status has a line."
+  "Signal that SESSION's program has ended, with its status and line.
+LINES are that line, where the status has one.  Where a signal ended the
+program, the status is the signal's number below 0."
   (let ((process (tmx-session-process session)))
     (while (process-live-p process)
       (tmx--more-output session))
