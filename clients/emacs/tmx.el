@@ -16,7 +16,8 @@
 ;; to page.  C-c C-l lists the errors, and C-c C-y opens the document once more
 ;; with another style file.  C-c C-e begins and ends editing: then letters, DEL
 ;; and RET change the document at the cursor, C-/ takes an edit back, and
-;; C-x C-s saves.  `g' opens the document anew.
+;; C-x C-s saves.  `g' opens the document anew.  The cursor follows point where
+;; other commands or the mouse have moved it.
 ;;
 ;; The buffer shows a page and doesn't hold the document, which the program
 ;; has.  Lisp programs can start a program of their own with `tmx-start' and
@@ -249,21 +250,25 @@ to wait, since it would end the program and lose the document."
   "Return the next line of SESSION's reply."
   (let ((line (tmx--next-line session)))
     (unless line
-      (let ((last (tmx-session-last session)))
-        (tmx--signal-end session (and (member last tmx--last-lines)
-                                      (list last)))))
+      (tmx--signal-end session (and (tmx-session-last session)
+                                    (list (tmx-session-last session)))))
     (setf (tmx-session-last session) line)))
 
 (defun tmx--signal-end (session lines)
-  "Signal that SESSION's program has ended, with its status and LINES."
+  "Signal that SESSION's program has ended, with its status and line.
+LINES are that line, where the status has one.  Where a signal ended the
+program, the status is the signal's number below 0."
   (let ((process (tmx-session-process session)))
     (while (process-live-p process)
       (tmx--more-output session))
-    (let ((status (process-exit-status process)))
+    (let ((status (if (eq (process-status process) 'signal)
+                      (- (process-exit-status process))
+                    (process-exit-status process))))
       (signal 'tmx-ended
-              (list (if (eq (process-status process) 'signal) (- status) status)
-                    (and lines (decode-coding-string
-                                (string-join lines "\n") 'utf-8)))))))
+              (list status
+                    (and lines (memq status '(2 3 4 5 6 8 9))
+                         (decode-coding-string (string-join lines "\n")
+                                               'utf-8)))))))
 
 (defun tmx-ask (session line)
   "Send LINE to SESSION's program, and return the lines of the reply.
@@ -399,6 +404,9 @@ The path is as a command has it, and the detail may be empty."
 (defvar-local tmx--page 1
   "The number of the page that the buffer shows.")
 
+(defvar-local tmx--point nil
+  "Where point was put when it last followed the cursor.")
+
 (defvar-local tmx--local-styles nil
   "The style files that the document is opened with.")
 
@@ -525,7 +533,8 @@ There are no commands for that, so this is a binary search with `where'."
 (defun tmx--skip-indent (place)
   "Move point over cells that have PLACE, as an indent has, to the last of them."
   (while (and (not (eolp)) (equal (tmx--next-place) place))
-    (forward-char)))
+    (forward-char))
+  (setq tmx--point (point)))
 
 (defun tmx--next-place ()
   "Return the place of the cell after the one at point, or nil past the columns."
@@ -545,6 +554,13 @@ There are no commands for that, so this is a binary search with `where'."
                (min column (1- (tmx-session-width tmx--session))))
   (tmx--move-point))
 
+(defun tmx--move-cursor ()
+  "Move the cursor to the cell at point, where point was moved by other commands."
+  (tmx--running)
+  (unless (eql (point) tmx--point)
+    (tmx-command tmx--session "click" (tmx--row)
+                 (min (current-column) (1- (tmx-session-width tmx--session))))))
+
 (defun tmx--move-point ()
   "Put point at the cursor.  The document hasn't changed."
   (let* ((place (tmx--place-numbers (car (tmx-command tmx--session "cursor"))))
@@ -561,15 +577,17 @@ There are no commands for that, so this is a binary search with `where'."
 (defun tmx-right (&optional count)
   "Move the cursor COUNT stops on."
   (interactive "p")
+  (tmx--move-cursor)
   (dotimes (_ (or count 1))
-    (tmx-command (tmx--running) "right"))
+    (tmx-command tmx--session "right"))
   (tmx--move-point))
 
 (defun tmx-left (&optional count)
   "Move the cursor COUNT stops back."
   (interactive "p")
+  (tmx--move-cursor)
   (dotimes (_ (or count 1))
-    (tmx-command (tmx--running) "left"))
+    (tmx-command tmx--session "left"))
   (tmx--move-point))
 
 (defun tmx-down ()
@@ -604,14 +622,8 @@ There are no commands for that, so this is a binary search with `where'."
   (tmx-command tmx--session "click" (tmx--rows-before page) 0)
   (setq tmx--page page)
   (tmx--insert-page)
-  (goto-char (point-min)))
-
-(defun tmx-mouse-click (event)
-  "Move the cursor to the cell of the mouse EVENT."
-  (interactive "e")
-  (mouse-set-point event)
-  (tmx--running)
-  (tmx--click (tmx--row) (current-column)))
+  (goto-char (point-min))
+  (setq tmx--point (point)))
 
 ;;;; Editing
 
@@ -631,6 +643,7 @@ There are no commands for that, so this is a binary search with `where'."
 (defun tmx-type (text)
   "Put TEXT in at the cursor.  A newline in it begins a new paragraph."
   (interactive "sText: ")
+  (tmx--move-cursor)
   (let ((commands (mapcar (lambda (paragraph)
                             (list "type" (tmx-quote (tmx-encode paragraph))))
                           (split-string text "\n"))))
@@ -651,11 +664,13 @@ There are no commands for that, so this is a binary search with `where'."
 (defun tmx-backspace ()
   "Take out what stands before the cursor."
   (interactive)
+  (tmx--move-cursor)
   (tmx--edit '("backspace")))
 
 (defun tmx-enter ()
   "Split the paragraph at the cursor."
   (interactive)
+  (tmx--move-cursor)
   (tmx--edit '("enter")))
 
 (defun tmx-undo ()
@@ -797,7 +812,6 @@ under another name and renamed."
     (define-key map [remap previous-line] #'tmx-up)
     (define-key map [remap scroll-up-command] #'tmx-next-page)
     (define-key map [remap scroll-down-command] #'tmx-previous-page)
-    (define-key map [remap mouse-set-point] #'tmx-mouse-click)
     (define-key map (kbd "C-c C-e") #'tmx-edit-mode)
     (define-key map (kbd "C-c C-l") #'tmx-list-errors)
     (define-key map (kbd "C-c C-y") #'tmx-add-style)

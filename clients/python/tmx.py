@@ -605,7 +605,7 @@ class Document:
         if not line or b"\n" in line or line.endswith(b"\r"):
             raise ValueError("a command is one line, without its end")
         if self._ended is not None:
-            raise self._ended
+            raise Ended(self._ended.status, self._ended.line)
         with self._whole_reply():
             if line == b"quit":
                 self._quit()
@@ -659,8 +659,7 @@ class Document:
         line = self._program.line(self._deadline)
         if line is None:
             status = self._program.finish(self.timeout)
-            told = bool(self._last) and self._last[0] in _LAST_LINES
-            self._ended = Ended(status, _status_line(self._last) if told else None)
+            self._ended = Ended(status, _status_line(self._last) if status in (6, 8, 9) else None)
             raise self._ended
         self._last = [line]
         return line
