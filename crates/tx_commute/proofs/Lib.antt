@@ -1,0 +1,17 @@
+pub mod Pieces
+pub mod Made
+pub mod Below
+pub mod Over
+pub mod Routes
+pub mod Came
+pub mod Passing
+pub mod Orders
+pub mod Tables
+pub mod Law
+pub mod Undoing
+pub mod Knowing
+pub mod PastMany
+pub mod LeftOut
+pub mod Seen
+pub mod Placed
+pub mod Loops
