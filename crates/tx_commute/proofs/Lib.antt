@@ -12,6 +12,8 @@ pub mod Undoing
 pub mod Knowing
 pub mod PastMany
 pub mod LeftOut
+pub mod OnePast
+pub mod OnWay
 pub mod Seen
 pub mod Placed
 pub mod Loops

@@ -2,5 +2,5 @@ pub mod Free
 pub mod Pasts
 pub mod Knowing
 pub mod Leaving
-pub mod Passages
+pub mod Midways
 pub mod Ways

@@ -79,8 +79,10 @@ pub(crate) fn known_of<L: Ledger>(
     ensures does { IfOk result (λ r. r.1.does ≡ m.now) }
     ensures undoes { IfOk result (λ r. r.1.undoes ≡ inverse_of m.now t.now) }
     ensures sound { IsSoundMod m.now }
+    ensures short { length (path_of m.now) ≤ 399 }
     ensures counted { steps.new ≤ steps.old + (length (path_of m.now) + 4) }
 {
+    let _size = t.size();
     sound(m);
     let does = m.copy(alloc)?;
     match apply_and_inverse(alloc, t, m, steps) {

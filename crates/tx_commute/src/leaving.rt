@@ -3,7 +3,7 @@ ghost use Rattle.std.specs.Prelude.{◌≡◌, ◌≤◌, ◌<◌, ◌+◌, ◌*
 ghost use Rattle.tx_commute.specs.Leaving.{left_out, lists_in_turn, total, IsLeft, NamesLimit};
 
 use crate::known::Known;
-use crate::passage::{Passed, begin, past_list};
+use crate::midway::{Passed, begin, past_list};
 use std::alloc::Global;
 use std::sync::ledger::Ledger;
 use tx_base::{Memory, Steps};
@@ -52,12 +52,14 @@ pub fn leave<L: Ledger>(
     let mut now = begin(alloc, before, edit, steps)?;
     let mut k = 0;
     for mods in later {
-        now = match past_list(alloc, now, mods.as_slice(), steps)? {
+        let passed = past_list(alloc, now, mods.as_slice(), steps)?;
+        now = match passed {
             Passed::All(next) => next,
             Passed::Stuck => return Ok(Left::Entangled(k)),
             Passed::Limit(cause) => return Ok(Left::Refused(k, cause)),
         };
         k += 1;
     }
-    Ok(Left::Mods(undoing(alloc, now.known)?))
+    let mods = undoing(alloc, now.known)?;
+    Ok(Left::Mods(mods))
 }

@@ -8,7 +8,7 @@ mod leaving;
 mod many;
 mod numbers;
 mod pairs;
-mod passage;
+mod midway;
 mod placing;
 mod ways;
 

@@ -2,8 +2,9 @@
 ghost use Rattle.std.specs.Prelude.{◌≡◌, ◌≤◌, ◌+◌, ◌*◌, ◌∷◌, [], length, reverse, map, IfOk, IsOk, Ok};
 ghost use Rattle.tx_mod.specs.Changes.{changed};
 ghost use Rattle.tx_mod.specs.InTurn.{changed_in_turn};
+ghost use Rattle.tx_mod.specs.Mods.{path_of};
 ghost use Rattle.tx_commute.specs.Leaving.{mods_of};
-ghost use Rattle.tx_commute.specs.Passages.{IsPassage, IsPassed};
+ghost use Rattle.tx_commute.specs.Midways.{IsMidway, IsPassed};
 
 use crate::known::{Known, known_of};
 use crate::many::past_all;
@@ -15,7 +16,7 @@ use tx_tree::Tree;
 
 // What is left of an edit, the last modification first, the tree with it, and the tree without it.
 #[derive(Drop)]
-pub(crate) struct Passage {
+pub(crate) struct Midway {
     pub known: Vec<Known>,
     pub present: Tree,
     pub out: Tree,
@@ -24,7 +25,7 @@ pub(crate) struct Passage {
 // What comes of taking an edit past modifications: all of them are passed, one doesn't commute, or one passes a limit.
 #[derive(Drop)]
 pub(crate) enum Passed {
-    All(Passage),
+    All(Midway),
     Stuck,
     Limit(ModFault),
 }
@@ -35,9 +36,9 @@ pub(crate) fn begin<L: Ledger>(
     before: &Tree,
     edit: &[Mod],
     steps: &mut Steps<L>,
-) -> Result<Passage, Memory>
+) -> Result<Midway, Memory>
     requires { IsOk (changed_in_turn edit.now before.now) }
-    ensures passage { IfOk result IsPassage }
+    ensures midway { IfOk result IsMidway }
     ensures mods { IfOk result (λ p. mods_of p.known.items ≡ reverse edit.now) }
     ensures present { IfOk result (λ p. changed_in_turn edit.now before.now ≡ Ok p.present) }
     ensures out { IfOk result (λ p. p.out ≡ before.now) }
@@ -53,49 +54,67 @@ pub(crate) fn begin<L: Ledger>(
         present = next;
     }
     known.reverse();
-    Ok(Passage { known, present, out })
+    Ok(Midway { known, present, out })
+}
+
+// What the modification makes of the tree, or the first cause why it makes nothing of it.
+fn outcome<L: Ledger>(
+    alloc: Global,
+    t: &Tree,
+    m: &Mod,
+    steps: &mut Steps<L>,
+) -> Result<Result<Tree, ModFault>, Memory>
+    requires { length (path_of m.now) ≤ 399 }
+    ensures outcome { IfOk result (λ made. changed m.now t.now ≡ made) }
+    ensures counted { steps.new ≤ steps.old + 402 }
+{
+    match apply(alloc, t, m, steps) {
+        Ok(changed) => Ok(Ok(changed)),
+        Err(ApplyFault::Refused(cause)) => Ok(Err(cause)),
+        Err(ApplyFault::Memory) => Err(Memory),
+    }
 }
 
 // Past one later modification.
 fn past_one<L: Ledger>(
     alloc: Global,
-    passage: Passage,
+    midway: Midway,
     b: &Mod,
     steps: &mut Steps<L>,
 ) -> Result<Passed, Memory>
-    requires passage { IsPassage passage }
-    requires applies { IsOk (changed b.now passage.present) }
-    ensures passed { IfOk result (IsPassed (b.now ∷ []) passage) }
+    requires midway { IsMidway midway }
+    requires applies { IsOk (changed b.now midway.present) }
+    ensures passed { IfOk result (IsPassed (b.now ∷ []) midway) }
     ensures counted { steps.new ≤ steps.old + 805 }
 {
-    let _present = passage.present.size();
-    let _out = passage.out.size();
-    let (present, later) = known_of(alloc, &passage.present, b, steps)?;
-    let Some((moved, known)) = past_all(alloc, passage.known, later)? else {
+    let _size = midway.out.size();
+    let (present, later) = known_of(alloc, &midway.present, b, steps)?;
+    let Some((moved, known)) = past_all(alloc, midway.known, later)? else {
         return Ok(Passed::Stuck);
     };
-    match apply(alloc, &passage.out, &moved.does, steps) {
-        Ok(out) => Ok(Passed::All(Passage { known, present, out })),
-        Err(ApplyFault::Refused(cause)) => Ok(Passed::Limit(cause)),
-        Err(ApplyFault::Memory) => Err(Memory),
+    let made = outcome(alloc, &midway.out, &moved.does, steps)?;
+    match made {
+        Ok(out) => Ok(Passed::All(Midway { known, present, out })),
+        Err(cause) => Ok(Passed::Limit(cause)),
     }
 }
 
 // Past the modifications of one later list.
 pub(crate) fn past_list<L: Ledger>(
     alloc: Global,
-    passage: Passage,
+    midway: Midway,
     mods: &[Mod],
     steps: &mut Steps<L>,
 ) -> Result<Passed, Memory>
-    requires passage { IsPassage passage }
-    requires apply { IsOk (changed_in_turn mods.now passage.present) }
-    ensures passed { IfOk result (IsPassed mods.now passage) }
+    requires midway { IsMidway midway }
+    requires apply { IsOk (changed_in_turn mods.now midway.present) }
+    ensures passed { IfOk result (IsPassed mods.now midway) }
     ensures counted { steps.new ≤ steps.old + 805 * length mods.now }
 {
-    let mut now = passage;
+    let mut now = midway;
     for b in mods {
-        now = match past_one(alloc, now, b, steps)? {
+        let passed = past_one(alloc, now, b, steps)?;
+        now = match passed {
             Passed::All(next) => next,
             Passed::Stuck => return Ok(Passed::Stuck),
             Passed::Limit(cause) => return Ok(Passed::Limit(cause)),
