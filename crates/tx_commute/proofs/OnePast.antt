@@ -21,12 +21,13 @@ use Rattle.tx_mod.proofs.InTurn.{first_then}
 use Rattle.tx_mod.proofs.Whole.{changed_is}
 use Rattle.tx_commute.specs.declared.known.Known.{Known}
 use Rattle.tx_commute.specs.declared.midway.Midway.{Midway}
-use Rattle.tx_commute.specs.declared.midway.Passed.TheVariants.{All, Limit}
+use Rattle.tx_commute.specs.declared.midway.Passed.{Passed}
+use Rattle.tx_commute.specs.declared.midway.Passed.TheVariants.{All, Stuck, Limit}
 use Rattle.tx_commute.specs.Free.{freely}
 use Rattle.tx_commute.specs.Knowing.{IsKnown}
 use Rattle.tx_commute.specs.Leaving.{made_of_all, PastAll, past_all, passed, stuck, past_limit, on_tree, through, IsLimit}
 use Rattle.tx_commute.specs.Leaving.{KnownPast, past_all_known, mods_of, AreAllKnown, AllTogether}
-use Rattle.tx_commute.specs.Midways.{IsMidway, IsPassed}
+use Rattle.tx_commute.specs.Midways.{IsMidway, IsPassed, IsPut}
 use Rattle.tx_commute.proofs.Knowing.{same_free}
 use Rattle.tx_commute.proofs.PastMany.{AgreeAll, all_known, all_together}
 use Rattle.tx_commute.proofs.Routes.{free_of, free_changed}
@@ -133,7 +134,7 @@ pub moved_cost : (p : Midway) (b : Mod) (later : Known) (w : WideTree) (k : Know
 moved_cost p b later w k left h l e i =
     let m = moved p b later w k left h l e in path_cost k.does p.out m.middle m.first i
 
-pub over_limit : (p : Midway) (b : Mod) (later : Known) (w : WideTree) (k : Known) (left : List Known) (cause : ModFault)
+over_limit : (p : Midway) (b : Mod) (later : Known) (w : WideTree) (k : Known) (left : List Known) (cause : ModFault)
     → IsMidway p → IsLater p b later w → past_all_known p.known.items later ≡ Some (k, left)
     → changed k.does p.out ≡ Err cause → IsPassed (b ∷ []) p (Limit cause)
 over_limit p b later w k left cause h l e f =
@@ -144,7 +145,7 @@ over_limit p b later w k left cause h l e f =
       free_limit k.does p.out m.middle cause m.first f,
     )
 
-pub goes_past : (p q : Midway) (b : Mod) (later k : Known) → IsMidway p → IsLater p b later q.present
+goes_past : (p q : Midway) (b : Mod) (later k : Known) → IsMidway p → IsLater p b later q.present
     → past_all_known p.known.items later ≡ Some (k, q.known.items) → changed k.does p.out ≡ Ok q.out
     → IsPassed (b ∷ []) p (All q)
 goes_past p q b later k h l e f =
@@ -162,3 +163,13 @@ goes_past p q b later k h l e f =
         formed = (stays_well_formed k.does p.out q.out m.sound h.formed f).0;
       },
     )
+
+pub put_past : (p : Midway) (b : Mod) (later : Known) (w : WideTree) (k : Known) (left : List Known) (r : Passed)
+    → IsMidway p → IsLater p b later w → past_all_known p.known.items later ≡ Some (k, left)
+    → IsPut k.does p.out left w r → IsPassed (b ∷ []) p r
+put_past p b later w k left (All q) h l e g =
+    goes_past p q b later k h
+    (record { does = l.does; undoes = l.undoes; sound = l.sound; made = l.made ∙ ap (λ z. Ok z) (sym g.2) })
+    (e ∙ ap (λ ks. Some (k, ks)) (sym g.1)) g.0
+put_past p b later w k left Stuck h l e g = absurd g
+put_past p b later w k left (Limit cause) h l e g = over_limit p b later w k left cause h l e g

@@ -1,7 +1,10 @@
 -- An edit on its way past later modifications. Only private clauses cite these.
-use Rattle.std.specs.Prelude.{◌≡◌, List, Some, Ok}
+use Rattle.std.specs.Prelude.{◌≡◌, List, Some, Ok, Err}
 use Rattle.tx_tree.specs.Limits.{IsWellFormed}
 use Rattle.tx_mod.specs.declared.mods.Mod.{Mod}
+use Rattle.tx_tree.specs.WideTree.{WideTree}
+use Rattle.tx_mod.specs.Changes.{changed}
+use Rattle.tx_commute.specs.declared.known.Known.{Known}
 use Rattle.tx_mod.specs.InTurn.{changed_in_turn, AreSoundMods}
 use Rattle.tx_commute.specs.declared.midway.Midway.{Midway}
 use Rattle.tx_commute.specs.declared.midway.Passed.{Passed}
@@ -24,3 +27,9 @@ IsPassed bs p (All q) =
     (course bs p ≡ passed q.out (mods_of q.known.items)) × (changed_in_turn bs p.present ≡ Ok q.present) × IsMidway q
 IsPassed bs p Stuck = course bs p ≡ stuck
 IsPassed bs p (Limit cause) = (course bs p ≡ past_limit cause) × IsLimit cause
+
+-- the result of applying the modification m to the tree t without the edit
+abbrev pub IsPut : Mod → WideTree → List Known → WideTree → Passed → Type 0
+IsPut m t known present (All q) = (changed m t ≡ Ok q.out) × (q.known.items ≡ known) × (q.present ≡ present)
+IsPut m t known present Stuck = ⊥
+IsPut m t known present (Limit cause) = changed m t ≡ Err cause

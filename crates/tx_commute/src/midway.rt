@@ -4,7 +4,7 @@ ghost use Rattle.tx_mod.specs.Changes.{changed};
 ghost use Rattle.tx_mod.specs.InTurn.{changed_in_turn};
 ghost use Rattle.tx_mod.specs.Mods.{path_of};
 ghost use Rattle.tx_commute.specs.Leaving.{mods_of};
-ghost use Rattle.tx_commute.specs.Midways.{IsMidway, IsPassed};
+ghost use Rattle.tx_commute.specs.Midways.{IsMidway, IsPassed, IsPut};
 
 use crate::known::{Known, known_of};
 use crate::many::past_all;
@@ -75,6 +75,49 @@ fn outcome<L: Ledger>(
     }
 }
 
+// The modification is applied to the tree without the edit.
+fn put_out<L: Ledger>(
+    alloc: Global,
+    t: &Tree,
+    m: &Mod,
+    known: Vec<Known>,
+    present: Tree,
+    steps: &mut Steps<L>,
+) -> Result<Passed, Memory>
+    requires { length (path_of m.now) ≤ 399 }
+    ensures put { IfOk result (IsPut m.now t.now known.items present) }
+    ensures counted { steps.new ≤ steps.old + 402 }
+{
+    match outcome(alloc, t, m, steps)? {
+        Ok(out) => Ok(Passed::All(Midway { known, present, out })),
+        Err(cause) => Ok(Passed::Limit(cause)),
+    }
+}
+
+// Past one later modification of the present tree.
+fn past_between<L: Ledger>(
+    alloc: Global,
+    present: &Tree,
+    out: &Tree,
+    known: Vec<Known>,
+    b: &Mod,
+    steps: &mut Steps<L>,
+) -> Result<Passed, Memory>
+    requires midway { IsMidway (record { known = known; present = present.now; out = out.now }) }
+    requires applies { IsOk (changed b.now present.now) }
+    ensures passed { IfOk result (IsPassed (b.now ∷ [])
+        (record { known = known; present = present.now; out = out.now })) }
+    ensures counted { steps.new ≤ steps.old + 805 }
+{
+    let _size = out.size();
+    let (next, later) = known_of(alloc, present, b, steps)?;
+    let Some((moved, left)) = past_all(alloc, known, later)? else {
+        return Ok(Passed::Stuck);
+    };
+    let passed = put_out(alloc, out, &moved.does, left, next, steps)?;
+    Ok(passed)
+}
+
 // Past one later modification.
 fn past_one<L: Ledger>(
     alloc: Global,
@@ -87,16 +130,12 @@ fn past_one<L: Ledger>(
     ensures passed { IfOk result (IsPassed (b.now ∷ []) midway) }
     ensures counted { steps.new ≤ steps.old + 805 }
 {
-    let _size = midway.out.size();
-    let (present, later) = known_of(alloc, &midway.present, b, steps)?;
-    let Some((moved, known)) = past_all(alloc, midway.known, later)? else {
-        return Ok(Passed::Stuck);
-    };
-    let made = outcome(alloc, &midway.out, &moved.does, steps)?;
-    match made {
-        Ok(out) => Ok(Passed::All(Midway { known, present, out })),
-        Err(cause) => Ok(Passed::Limit(cause)),
-    }
+    let Midway {
+        known,
+        present,
+        out,
+    } = midway;
+    past_between(alloc, &present, &out, known, b, steps)
 }
 
 // Past the modifications of one later list.

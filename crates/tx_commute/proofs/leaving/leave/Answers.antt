@@ -74,7 +74,7 @@ returns-in-Limit-clause-counted g c =
 pub returns-in_err-passed-clause-counted : goal.returns-in_err-passed-clause-counted
 returns-in_err-passed-clause-counted g c =
     omega (arith, less_left c.args.later.now c.loop-mods.mods-index c.mods-item.result c.as_slice.result.now (omega arith)
-    (c.as_slice.ensures ∙ c.mods-item.is), c.loop-mods.invariant.counted, c.past_list-passed.ensures.counted)
+    (c.as_slice.ensures ∙ c.mods-item.is), c.loop-mods.invariant.counted, c.past_list.ensures.counted)
 
 pub returns-clause-left : goal.returns-clause-left
 returns-clause-left g c =

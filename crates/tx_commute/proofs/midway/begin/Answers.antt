@@ -30,7 +30,7 @@ pub returns-clause-midway : goal.returns-clause-midway
 returns-clause-midway g c =
     edit_ends c.args.edit.now c.loop-m.m-index c.args.before.now c.loop-m.present c.loop-m.known.items
     (record { known = c.reverse.new.self; present = c.loop-m.present; out = c.in_ok-out.out })
-    c.loop-m.invariant.begun c.reverse.ensures.items c.in_ok-out.ensures refl c.size-_size.ensures.well_formed
+    c.loop-m.invariant.begun c.reverse.ensures.items c.in_ok-out.ensures refl c.size-size.ensures.well_formed
 
 pub returns-clause-mods : goal.returns-clause-mods
 returns-clause-mods g c =
