@@ -66,7 +66,7 @@ clean_with (node l ts) d j n = refl
 split_inside : (l : List ℕ) (ts : Forest) (v c d : WideTree) (i j n m : ℕ) (w : WideTree) → split (node l ts) i j ≡ Ok v
     → slice_get (trees ts) i ≡ Some c
     → (piece (trees ts) i (i + 1) (tree_up_to (with_child_at c n d) j ∷ tree_from (with_child_at c n d) j ∷ [])
-      ≡ set (piece (trees ts) i (i + 1) (tree_up_to c j ∷ tree_from c j ∷ [])) m w)
+    ≡ set (piece (trees ts) i (i + 1) (tree_up_to c j ∷ tree_from c j ∷ [])) m w)
     → split (with_child_at (node l ts) i (with_child_at c n d)) i j ≡ Ok (with_child_at v m w)
 split_inside l ts v c d i j n m w e f same =
     let T : List WideTree = trees ts in
@@ -102,7 +102,7 @@ split_child_before (node l ts) v c d i j n e f lt =
 pub split_child_behind : (s v c d : WideTree) (i j n : ℕ) → split s i j ≡ Ok v → slice_get (children_of s) i ≡ Some c
     → j ≤ n
     → split (with_child_at s i (with_child_at c n d)) i j
-      ≡ Ok (with_child_at v (i + 1) (with_child_at (tree_from c j) (n - j) d))
+    ≡ Ok (with_child_at v (i + 1) (with_child_at (tree_from c j) (n - j) d))
 split_child_behind (leaf text) v c d i j n e f le = absurd (cc)
 split_child_behind (node l ts) v c d i j n e f le =
     let T : List WideTree = trees ts in
@@ -172,7 +172,7 @@ join_child_left (node l ts) v a c d i n e f g lt =
 pub join_child_right : (s v a b c d : WideTree) (i n : ℕ) → joined_at s i ≡ Ok v → slice_get (children_of s) i ≡ Some a
     → slice_get (children_of s) (i + 1) ≡ Some b → slice_get (children_of v) i ≡ Some c → n < length (children_of b)
     → joined_at (with_child_at s (i + 1) (with_child_at b n d)) i
-      ≡ Ok (with_child_at v i (with_child_at c (n + extent a) d))
+    ≡ Ok (with_child_at v i (with_child_at c (n + extent a) d))
 join_child_right (leaf text) v a b c d i n e f f' g lt = absurd (cc)
 join_child_right (node l ts) v a b c d i n e f f' g lt =
     let T : List WideTree = trees ts in

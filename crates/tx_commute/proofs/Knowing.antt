@@ -193,8 +193,7 @@ agree_table t a b (Some p) (Some r) j h =
     ∙ ap (λ n. same_known (at_place b.does p.0) (at_place b.undoes n)) j.2 in
     let second : known_by a r.1 ≡ known_put a p.1 =
     ap (λ m. same_known m (at_place a.undoes (place_of r.1))) j.1
-    ∙ ap (λ n. same_known (at_place a.does p.1) (at_place a.undoes n)) j.3 in
-    (
+    ∙ ap (λ n. same_known (at_place a.does p.1) (at_place a.undoes n)) j.3 in (
       sym j.0,
       sym j.1,
       subst (λ k. AreKnown t k (known_put a p.1)) first (subst (λ k. AreKnown t (known_by b r.0) k) second (h r refl)),
@@ -257,9 +256,9 @@ known_agrees t u v a b h h' e f ka kb =
         record {
           first = kb ∙ sym (inverse_stays b.does u z s x (path_of a.does) r found there k) ∙ ap (inverse_of b.does) back;
           second = λ w g.
-          ap (λ y. at_path y r) ia
-          ∙ sym (inverse_elsewhere a.does middle s r (subtree_of_replaced r v x s c.there))
-          ∙ ap (inverse_of (at_path a.does r)) (same_free b.does t middle w made g);
+              ap (λ y. at_path y r) ia
+              ∙ sym (inverse_elsewhere a.does middle s r (subtree_of_replaced r v x s c.there))
+              ∙ ap (inverse_of (at_path a.does r)) (same_free b.does t middle w made g);
         }
 
     carried_back : (s z y : WideTree) (r : List ℕ) → b.undoes ≡ inverse_at b.does z → subtree t (path_of a.does) ≡ Some s
@@ -272,8 +271,8 @@ known_agrees t u v a b h h' e f ka kb =
         record {
           first = ap (λ w. at_path w r) ib ∙ sym (inverse_elsewhere b.does t z r c.0);
           second = λ w g.
-          ka ∙ sym (inverse_stays a.does t s y z r (path_of b.does) found c.0 c.1)
-          ∙ ap (inverse_of a.does) (same_free (at_path b.does r) t (replaced t r y) w made g);
+              ka ∙ sym (inverse_stays a.does t s y z r (path_of b.does) found c.0 c.1)
+              ∙ ap (inverse_of a.does) (same_free (at_path b.does r) t (replaced t r y) w made g);
         }
 
     same_some : (x y : WideTree) → ◌≡◌ {A = Option WideTree} (Some x) (Some y) → x ≡ y
@@ -294,10 +293,10 @@ known_agrees t u v a b h h' e f ka kb =
           first = ap (λ w. at_place w (place_of r.0)) (ib ∙ ap (inverse_at b.does) one) ∙ sym both.back_first
               ∙ sym (inverse_is_at r.0 t s (ap (subtree t) (row.1 ∙ sym same) ∙ found));
           second = λ w g.
-          ap (λ n. at_place n (place_of r.1)) ia ∙ sym both.back_second
-          ∙ sym (inverse_is_at r.1 middle both.middle
-          (ap (subtree middle) row.2 ∙ subtree_of_replaced p t s both.middle found))
-          ∙ ap (inverse_of r.1) (same_free r.0 t middle w made g);
+              ap (λ n. at_place n (place_of r.1)) ia ∙ sym both.back_second
+              ∙ sym (inverse_is_at r.1 middle both.middle
+              (ap (subtree middle) row.2 ∙ subtree_of_replaced p t s both.middle found))
+              ∙ ap (inverse_of r.1) (same_free r.0 t middle w made g);
         }
 
 -- ---- the pair of two modifications

@@ -96,7 +96,7 @@ past_through (b ∷ bs) t u v out ls left h p e f =
         → changed_in_turn bs x ≡ Ok v → (o : Outcome) → changed r.0 t ≡ o
         → on_tree (λ y. through bs y r.1) o ≡ passed out left
         → ((y x' : WideTree) (ls' : List Mod) → IsPast y x' ls' → changed_in_turn bs x' ≡ Ok v
-          → through bs y ls' ≡ passed out left → IsPast out v left)
+        → through bs y ls' ≡ passed out left → IsPast out v left)
         → IsPast out v left
     by_change r g x k l (Err cause) m n ih = absurd (cc)
     by_change r g x k l (Ok y) m n ih =
@@ -114,7 +114,7 @@ past_through (b ∷ bs) t u v out ls left h p e f =
         → freely b u ≡ Some x
         → option_map_or (λ r. on_tree (λ y. through bs y r.1) (changed r.0 t)) o stuck ≡ passed out left
         → ((y x' : WideTree) (ls' : List Mod) → IsPast y x' ls' → changed_in_turn bs x' ≡ Ok v
-          → through bs y ls' ≡ passed out left → IsPast out v left)
+        → through bs y ls' ≡ passed out left → IsPast out v left)
         → IsPast out v left
     by_past None g x l k f' ih = absurd (cc)
     by_past (Some r) g x l k f' ih = by_change r g x k l (changed r.0 t) refl f' ih
@@ -148,7 +148,7 @@ past_lists [] k t u present out ls mods h p e f =
       leads = ap (made_of_all ls) (sym tree) ∙ leads;
       are = sym list ∙ ap (undo_all ls) tree;
       back = λ w g.
-      undone_all ls t present w p.sound p.formed leads (ap (λ z. changed_in_turn z present) list ∙ g) ∙ tree;
+          undone_all ls t present w p.sound p.formed leads (ap (λ z. changed_in_turn z present) list ∙ g) ∙ tree;
     }
 past_lists (bs ∷ rest) k t u present out ls mods h p e f =
     let b = lists_begun bs rest u present e in
@@ -158,7 +158,7 @@ past_lists (bs ∷ rest) k t u present out ls mods h p e f =
     by_course : (b : AreBegun bs rest u present) (c : Course) → through bs t ls ≡ c
         → go_on (leave_from rest (k + 1)) k c ≡ without out mods
         → ((x : WideTree) (left : List Mod) → IsPast x b.next left → leave_from rest (k + 1) x left ≡ without out mods
-          → IsWithout present out mods)
+        → IsWithout present out mods)
         → IsWithout present out mods
     by_course b (passed x left) g f' ih = ih x left (past_through bs t u b.next x ls left h.0 p b.first g) f'
     by_course b stuck g f' ih = absurd (cc)

@@ -49,7 +49,7 @@ first_course b bs t ls = by_past (past_all t ls b)
 
     by_past : (o : Option PastAll)
         → option_map_or (λ r. on_tree (λ y. through bs y r.1) (changed r.0 t)) o stuck
-          ≡ from_first bs (option_map_or (λ r. on_tree (λ y. through [] y r.1) (changed r.0 t)) o stuck)
+        ≡ from_first bs (option_map_or (λ r. on_tree (λ y. through [] y r.1) (changed r.0 t)) o stuck)
     by_past None = refl
     by_past (Some r) = by_change r (changed r.0 t)
 
@@ -261,10 +261,9 @@ pub lists_limit : (later : List (List Mod)) (k n : ℕ) (whole : LeftOut) (q : M
     (cause : ModFault) → ArePassed later k whole q → k < length later → bs ≡ slice_index_or later k d → IsPassed bs q r
     → r ≡ Limit cause → n ≡ k → IsLeft whole (Refused n cause) × IsLimit cause
 lists_limit later k n whole q d bs r cause h inside is done e same =
-    let p : IsPassed bs q (Limit cause) = subst (IsPassed bs q) e done in
-    (
+    let p : IsPassed bs q (Limit cause) = subst (IsPassed bs q) e done in (
       subst (λ w. IsLeft w (Refused n cause))
-      (sym (next_left later k whole q d bs (past_limit cause) h inside is p.0)) (ap (λ i. Refused i cause) same),
+          (sym (next_left later k whole q d bs (past_limit cause) h inside is p.0)) (ap (λ i. Refused i cause) same),
       p.1,
     )
 

@@ -138,10 +138,9 @@ over_limit : (p : Midway) (b : Mod) (later : Known) (w : WideTree) (k : Known) (
     → IsMidway p → IsLater p b later w → past_all_known p.known.items later ≡ Some (k, left)
     → changed k.does p.out ≡ Err cause → IsPassed (b ∷ []) p (Limit cause)
 over_limit p b later w k left cause h l e f =
-    let m = moved p b later w k left h l e in
-    (
+    let m = moved p b later w k left h l e in (
       ap (λ o. option_map_or (λ r. on_tree (λ y. through [] y r.1) (changed r.0 p.out)) o stuck) m.past
-      ∙ ap (on_tree (λ y. passed y (mods_of left))) f,
+          ∙ ap (on_tree (λ y. passed y (mods_of left))) f,
       free_limit k.does p.out m.middle cause m.first f,
     )
 
@@ -151,10 +150,9 @@ goes_past : (p q : Midway) (b : Mod) (later k : Known) → IsMidway p → IsLate
 goes_past p q b later k h l e f =
     let left : List Known = q.known.items in
     let m = moved p b later q.present k left h l e in
-    let same : m.middle ≡ q.out = same_free k.does p.out m.middle q.out m.first (free_changed k.does p.out q.out f) in
-    (
+    let same : m.middle ≡ q.out = same_free k.does p.out m.middle q.out m.first (free_changed k.does p.out q.out f) in (
       ap (λ o. option_map_or (λ r. on_tree (λ y. through [] y r.1) (changed r.0 p.out)) o stuck) m.past
-      ∙ ap (on_tree (λ y. passed y (mods_of left))) f,
+          ∙ ap (on_tree (λ y. passed y (mods_of left))) f,
       first_then b [] p.present q.present l.made,
       record {
         leads = ap (made_of_all (mods_of left)) (sym same) ∙ m.leads;

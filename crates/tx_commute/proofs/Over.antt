@@ -55,7 +55,7 @@ over_child m s v y z c k j u i f g h =
 over_grandchild : (m : Mod) (s v y z c b d : WideTree) (k l j n : ℕ) (u : List ℕ) → subtree d u ≡ Some z → slice_get (children_of s) k ≡ Some c
     → slice_get (children_of c) l ≡ Some d → slice_get (children_of v) j ≡ Some b → slice_get (children_of b) n ≡ Some d
     → changed_at m (with_child_at s k (with_child_at c l (replaced d u y)))
-      ≡ Ok (with_child_at v j (with_child_at b n (replaced d u y)))
+    ≡ Ok (with_child_at v j (with_child_at b n (replaced d u y)))
     → Over m s v y z (k ∷ l ∷ u) (Some (j ∷ n ∷ u))
 over_grandchild m s v y z c b d k l j n u i f f' g g' h =
     over_some m s v y z (k ∷ l ∷ u) (j ∷ n ∷ u) (step_down v b j (n ∷ u) g ∙ step_down b d n u g' ∙ i)

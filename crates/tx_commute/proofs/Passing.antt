@@ -83,16 +83,14 @@ came m t u z q r e f g =
     by_route s v found at is there (below b c h k same) =
         let whole : q ≡ p ++ b = rest_is p q b h in
         let here : subtree v b ≡ Some z = sym (subtree_behind p b u v there) ∙ ap (subtree u) (sym whole) ∙ f in
-        let back = came_at m s v z b at here c k in
-        (
+        let back = came_at m s v z b at here c k in (
           ap (subtree t) same ∙ subtree_behind p c t s found ∙ back.0,
           ap (carried_path m t) same ∙ carried_below m t s c b found back.1 ∙ ap (λ w. Some w) (sym whole),
         )
-    by_route s v found at is there (aside h h' same) =
-        (
-          ap (subtree t) same ∙ sym (parted p q t s v h h' found) ∙ ap (λ w. subtree w q) (sym is) ∙ f,
-          ap (carried_path m t) same ∙ carried_aside m t s q found h h',
-        )
+    by_route s v found at is there (aside h h' same) = (
+      ap (subtree t) same ∙ sym (parted p q t s v h h' found) ∙ ap (λ w. subtree w q) (sym is) ∙ f,
+      ap (carried_path m t) same ∙ carried_aside m t s q found h h',
+    )
 
 -- what is carried through m comes back through its inverse
 pub comes_back : (m : Mod) (t u z : WideTree) (q r : List ℕ) → freely m t ≡ Some u → subtree t q ≡ Some z

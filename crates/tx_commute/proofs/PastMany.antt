@@ -162,8 +162,7 @@ pub all_together : (ls : List Mod) (t u v : WideTree) (b b' : Mod) (ls' : List M
     → AllTogether t b' ls' v × IsSoundMod b' × AreSoundMods ls'
 all_together [] t u v b b' ls' h k e f g =
     let same : t ≡ u = same_tree_of t u e in
-    let pair : ◌≡◌ {A = PastAll} (b, []) (b', ls') = cc in
-    (
+    let pair : ◌≡◌ {A = PastAll} (b, []) (b', ls') = cc in (
       record {
         middle = v;
         first = ap (λ z. freely z t) (sym (ap (λ z. z.0) pair)) ∙ ap (freely b) same ∙ f;
@@ -182,8 +181,7 @@ all_together (a ∷ ls) t u v b b' ls' h k e f g =
     sym (ap (option_and_then (λ w. past_from s.before w a b)) last) ∙ s.pair in
     let sound = past_sound s.before u a b h.0 k (s.one, s.kept) from in
     let ih = all_together ls t s.before m.middle s.one b' s.others h.1 sound.0 s.made m.first s.rest in
-    let c : AllTogether t b' s.others m.middle = ih.0 in
-    (
+    let c : AllTogether t b' s.others m.middle = ih.0 in (
       record {
         middle = c.middle;
         first = c.first;
@@ -235,18 +233,17 @@ all_known (a ∷ ks) t u v b h k w e f g =
     rest s x y p m first second after None (Some r) j l = absurd j
     rest s x y p m first second after (Some n) None j l = absurd j
     rest s x y p m first second after (Some n) (Some r) j l =
-        let c : AllTogether t r.0 r.1 m.middle = l r refl in
-        (
+        let c : AllTogether t r.0 r.1 m.middle = l r refl in (
           j.0,
           ap (λ z. z ∷ mods_of n.1) second ∙ ap (λ z. p.1 ∷ z) j.1,
           j.2,
           λ z q. (
             λ x' q'.
-            after x'
-            (ap (λ i. freely i s) first ∙ m.first
-            ∙ sym c.second ∙ ap (λ i. made_of_all r.1 i)
-            (same_tree_of c.middle z (sym c.first ∙ ap (λ i. freely i t) (sym j.0) ∙ q))
-            ∙ ap (λ i. made_of_all i z) (sym j.1) ∙ q'),
+                after x'
+                (ap (λ i. freely i s) first ∙ m.first
+                ∙ sym c.second ∙ ap (λ i. made_of_all r.1 i)
+                (same_tree_of c.middle z (sym c.first ∙ ap (λ i. freely i t) (sym j.0) ∙ q))
+                ∙ ap (λ i. made_of_all i z) (sym j.1) ∙ q'),
             j.3 z q,
           ),
         )
@@ -254,12 +251,12 @@ all_known (a ∷ ks) t u v b h k w e f g =
     by_pair : (s : WideTree) → made_of_all (mods_of ks) t ≡ Some s → (o : Option KnownPair) (o' : Option Pair) → Agree s o o'
         → ((p : Pair) → o' ≡ Some p → MakeTogether s p.0 p.1 v × (IsSoundMod p.0 × IsSoundMod p.1))
         → ((x z : WideTree) (y : Known) → freely y.does x ≡ Some z → made_of_all (mods_of ks) t ≡ Some x → IsSoundMod y.does
-          → IsKnown y x → AgreeAll t (past_all_known ks y) (past_all t (mods_of ks) y.does))
+        → IsKnown y x → AgreeAll t (past_all_known ks y) (past_all t (mods_of ks) y.does))
         → ((x z : WideTree) (y : Mod) (r : PastAll) → freely y x ≡ Some z → made_of_all (mods_of ks) t ≡ Some x
-          → IsSoundMod y → past_all t (mods_of ks) y ≡ Some (r.0, r.1)
-          → AllTogether t r.0 r.1 z × IsSoundMod r.0 × AreSoundMods r.1)
+        → IsSoundMod y → past_all t (mods_of ks) y ≡ Some (r.0, r.1)
+        → AllTogether t r.0 r.1 z × IsSoundMod r.0 × AreSoundMods r.1)
         → AgreeAll t (option_and_then (λ p. option_map (put_known p.1) (past_all_known ks p.0)) o)
-          (option_and_then (λ p. option_map (put_before p.1) (past_all t (mods_of ks) p.0)) o')
+        (option_and_then (λ p. option_map (put_before p.1) (past_all t (mods_of ks) p.0)) o')
     by_pair s made None None j l ih law = tt
     by_pair s made None (Some p) j l ih law = absurd j
     by_pair s made (Some n) None j l ih law = absurd j

@@ -83,7 +83,7 @@ replaced_apart (i ∷ p) (k ∷ q) t s z x y e f g h =
     tested : (c c' : WideTree) (b b' : Bool) → eqb i k ≡ b → eqb k i ≡ b' → slice_get (children_of t) i ≡ Some c
         → slice_get (children_of t) k ≡ Some c' → subtree c p ≡ Some s → subtree c' q ≡ Some z
         → ((w : WideTree) → subtree w p ≡ Some s → subtree w q ≡ Some z → rest_behind p q ≡ None → rest_behind q p ≡ None
-          → replaced (replaced w p x) q y ≡ replaced (replaced w q y) p x)
+        → replaced (replaced w p x) q y ≡ replaced (replaced w q y) p x)
         → (if b then rest_behind p q else None) ≡ None → (if b' then rest_behind q p else None) ≡ None
         → replaced (replaced t (i ∷ p) x) (k ∷ q) y ≡ replaced (replaced t (k ∷ q) y) (i ∷ p) x
     tested c c' true true t1 t2 found found' more more' ih h1 h2 =

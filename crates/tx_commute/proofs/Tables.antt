@@ -118,8 +118,7 @@ row_some : (x y : Mod) (s v w : WideTree) (b a : Mod) → path_of b ≡ path_of 
 row_some x y s v w b a g g' h b' a' e =
     let pair : ◌≡◌ {A = Pair} (b, a) (b', a') = cc in
     let first : b ≡ b' = ap (λ z. z.0) pair in
-    let second : a ≡ a' = ap (λ z. z.1) pair in
-    (
+    let second : a ≡ a' = ap (λ z. z.1) pair in (
       subst (λ z. Both s v x y z a' w) first (subst (λ z. Both s v x y b z w) second h),
       ap path_of (sym first) ∙ g,
       ap path_of (sym second) ∙ g',
@@ -212,9 +211,9 @@ leaf_insert p xs h i =
     record {
       into = λ t v e. into t v (ok_asked (leb i (length t)) (BadPlace (length t)) _ v e);
       out = λ t f.
-      asked_ok (leb i (length t)) (BadPlace (length t)) _ (le-leb i (length t) f.within)
-      ∙ asked_ok (is_cut t i) (CutsSymbol i) _ (text_is_cut t i f.within f.starts)
-      ∙ ap (λ z. Ok (leaf z)) (put_in_is t xs i);
+          asked_ok (leb i (length t)) (BadPlace (length t)) _ (le-leb i (length t) f.within)
+          ∙ asked_ok (is_cut t i) (CutsSymbol i) _ (text_is_cut t i f.within f.starts)
+          ∙ ap (λ z. Ok (leaf z)) (put_in_is t xs i);
       undone = λ t. refl;
       moved = λ j l zs. refl;
       place = refl;
@@ -225,8 +224,7 @@ leaf_insert p xs h i =
         → Fits IsText t i i xs × (v ≡ leaf (piece t i i xs))
     into t v a =
         let b = ok_asked (is_cut t i) (CutsSymbol i) _ v a.1 in
-        let cut : IsText (take i t) = cut_is_text t i b.0 in
-        (
+        let cut : IsText (take i t) = cut_is_text t i b.0 in (
           record { order = omega arith; within = leb-true i (length t) a.0; starts = cut; ends = cut; new = h },
           sym (same_tree (leaf (put_in t i xs)) v b.1) ∙ ap leaf (put_in_is t xs i),
         )
@@ -236,9 +234,9 @@ leaf_remove p n i =
     record {
       into = λ t v e. into t v (ok_asked (leb (i + n) (length t)) (BadPlace (length t)) _ v e);
       out = λ t f.
-      asked_ok (leb (i + n) (length t)) (BadPlace (length t)) _ (le-leb (i + n) (length t) f.within)
-      ∙ asked_ok (is_cut t i) (CutsSymbol i) _ (text_is_cut t i (shorter t f.within) f.starts)
-      ∙ asked_ok (is_cut t (i + n)) (CutsSymbol (i + n)) _ (text_is_cut t (i + n) f.within f.ends);
+          asked_ok (leb (i + n) (length t)) (BadPlace (length t)) _ (le-leb (i + n) (length t) f.within)
+          ∙ asked_ok (is_cut t i) (CutsSymbol i) _ (text_is_cut t i (shorter t f.within) f.starts)
+          ∙ asked_ok (is_cut t (i + n)) (CutsSymbol (i + n)) _ (text_is_cut t (i + n) f.within f.ends);
       undone = λ t. ap (λ w. Mod.Insert p i (leaf (take w (drop i t)))) (sym (sub_add i n));
       moved = λ j l zs. refl;
       place = refl;
@@ -249,13 +247,12 @@ leaf_remove p n i =
 
     into : (t : List ℕ) (v : WideTree)
         → (leb (i + n) (length t) ≡ true)
-          × (asking (is_cut t i) (CutsSymbol i) (asking (is_cut t (i + n)) (CutsSymbol (i + n)) (Ok (leaf (taken_out t i n))))
-            ≡ Ok v)
+        × (asking (is_cut t i) (CutsSymbol i) (asking (is_cut t (i + n)) (CutsSymbol (i + n)) (Ok (leaf (taken_out t i n))))
+        ≡ Ok v)
         → Fits IsText t i (i + n) [] × (v ≡ leaf (piece t i (i + n) []))
     into t v a =
         let b = ok_asked (is_cut t i) (CutsSymbol i) _ v a.1 in
-        let c = ok_asked (is_cut t (i + n)) (CutsSymbol (i + n)) _ v b.1 in
-        (
+        let c = ok_asked (is_cut t (i + n)) (CutsSymbol (i + n)) _ v b.1 in (
           record {
             order = omega arith;
             within = leb-true (i + n) (length t) a.0;
@@ -290,15 +287,14 @@ node_insert l p m us named i =
   where
     into : (t : List WideTree) (v : WideTree) → inserted (node l (forest t)) i (node m us) ≡ Ok v
         → (bytes_eq m tuple ≡ true)
-          × (asking (leb i (length (trees (forest t)))) (BadPlace (length (trees (forest t))))
-            (Ok (node l (forest (put_in (trees (forest t)) i (trees us))))) ≡ Ok v)
+        × (asking (leb i (length (trees (forest t)))) (BadPlace (length (trees (forest t))))
+        (Ok (node l (forest (put_in (trees (forest t)) i (trees us))))) ≡ Ok v)
         → Fits Any t i i (trees us) × (v ≡ of_list l (piece t i i (trees us)))
     into t v e a =
         let b = ok_asked (leb i (length (trees (forest t)))) (BadPlace (length (trees (forest t)))) _ v a.1 in
         let same : length (trees (forest t)) ≡ length t = ap length (trees_forest t) in
         let at : i ≤ length (trees (forest t)) = leb-true i (length (trees (forest t))) b.0 in
-        let le : i ≤ length t = omega (arith, at, same) in
-        (
+        let le : i ≤ length t = omega (arith, at, same) in (
           record { order = omega arith; within = le; starts = tt; ends = tt; new = tt },
           same_tree v (node l (forest (piece t i i (trees us)))) (sym e ∙ insert_made l m t us i named le),
         )
@@ -310,21 +306,20 @@ node_remove l p n i =
       into = λ t v e. into t v e (ok_asked (leb (i + n) (length (trees (forest t)))) (BadPlace (length (trees (forest t)))) _ v e);
       out = λ t f. remove_made l t i n f.within;
       undone = λ t.
-      ap (λ us. Mod.Insert p i (node tuple (forest (take n (drop i us))))) (trees_forest t)
-      ∙ ap (λ w. Mod.Insert p i (node tuple (forest (take w (drop i t))))) (sym (sub_add i n));
+          ap (λ us. Mod.Insert p i (node tuple (forest (take n (drop i us))))) (trees_forest t)
+          ∙ ap (λ w. Mod.Insert p i (node tuple (forest (take w (drop i t))))) (sym (sub_add i n));
       moved = λ j l zs. refl;
       place = refl;
     }
   where
     into : (t : List WideTree) (v : WideTree) → removed (node l (forest t)) i n ≡ Ok v
         → (leb (i + n) (length (trees (forest t))) ≡ true)
-          × (◌≡◌ {A = Outcome} (Ok (node l (forest (taken_out (trees (forest t)) i n)))) (Ok v))
+        × (◌≡◌ {A = Outcome} (Ok (node l (forest (taken_out (trees (forest t)) i n)))) (Ok v))
         → Fits Any t i (i + n) [] × (v ≡ of_list l (piece t i (i + n) []))
     into t v e a =
         let same : length (trees (forest t)) ≡ length t = ap length (trees_forest t) in
         let at : i + n ≤ length (trees (forest t)) = leb-true (i + n) (length (trees (forest t))) a.0 in
-        let le : i + n ≤ length t = omega (arith, at, same) in
-        (
+        let le : i + n ≤ length t = omega (arith, at, same) in (
           record { order = omega arith; within = le; starts = tt; ends = tt; new = tt },
           same_tree v (node l (forest (piece t i (i + n) []))) (sym e ∙ remove_made l t i n le),
         )

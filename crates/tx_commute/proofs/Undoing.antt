@@ -61,12 +61,12 @@ remove_stays p s y z i n (k ∷ u) f =
 -- a child that isn't child i, and one that has another child of its own, leave the extent of child i
 other_extent : (s d : WideTree) (i k : ℕ) → (k ≡ i → ⊥)
     → option_map_or extent (slice_get (children_of (with_child_at s k d)) i) 0
-      ≡ option_map_or extent (slice_get (children_of s) i) 0
+    ≡ option_map_or extent (slice_get (children_of s) i) 0
 other_extent s d i k ne = ap (λ o. option_map_or extent o 0) (other_child_of_with s d k i (λ z. ne (sym z)))
 
 same_extent : (s c d : WideTree) (i : ℕ) → slice_get (children_of s) i ≡ Some c → extent d ≡ extent c
     → option_map_or extent (slice_get (children_of (with_child_at s i d)) i) 0
-      ≡ option_map_or extent (slice_get (children_of s) i) 0
+    ≡ option_map_or extent (slice_get (children_of s) i) 0
 same_extent s c d i f e =
     ap (λ o. option_map_or extent o 0) (child_of_with s c d i f) ∙ e
     ∙ sym (ap (λ o. option_map_or extent o 0) f)

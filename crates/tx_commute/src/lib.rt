@@ -6,9 +6,9 @@ mod known;
 mod laws;
 mod leaving;
 mod many;
+mod midway;
 mod numbers;
 mod pairs;
-mod midway;
 mod placing;
 mod ways;
 

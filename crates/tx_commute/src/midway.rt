@@ -54,7 +54,11 @@ pub(crate) fn begin<L: Ledger>(
         present = next;
     }
     known.reverse();
-    Ok(Midway { known, present, out })
+    Ok(Midway {
+        known,
+        present,
+        out,
+    })
 }
 
 // What the modification makes of the tree, or the first cause why it makes nothing of it.
@@ -89,7 +93,11 @@ fn put_out<L: Ledger>(
     ensures counted { steps.new ≤ steps.old + 402 }
 {
     match outcome(alloc, t, m, steps)? {
-        Ok(out) => Ok(Passed::All(Midway { known, present, out })),
+        Ok(out) => Ok(Passed::All(Midway {
+            known,
+            present,
+            out,
+        })),
         Err(cause) => Ok(Passed::Limit(cause)),
     }
 }

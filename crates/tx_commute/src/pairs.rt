@@ -28,7 +28,11 @@ fn known_at(alloc: Global, k: Known, path: Path) -> Result<Known, Memory>
 
 #[tactic(auto, using(crate::proofs::Placed::pair_cases, std::proofs::lemmas::Grind::common_steps))]
 // What is left of both, the later one first, or None where they don't commute.
-pub(crate) fn past_known(alloc: Global, a: Known, b: Known) -> Result<Option<(Known, Known)>, Memory>
+pub(crate) fn past_known(
+    alloc: Global,
+    a: Known,
+    b: Known,
+) -> Result<Option<(Known, Known)>, Memory>
     ensures { IfOk result (λ o. o ≡ past_known a b) }
 {
     if let Some(path) = carried_by(alloc, &b.does, &b.undoes, a.does.path())? {

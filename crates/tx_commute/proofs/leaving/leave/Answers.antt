@@ -49,8 +49,13 @@ returns-in-Stuck-clause-left g c =
 
 pub returns-in-Stuck-clause-counted : goal.returns-in-Stuck-clause-counted
 returns-in-Stuck-clause-counted g c =
-    omega (arith, less_left c.args.later.now c.loop-mods.mods-index c.mods-item.result c.as_slice.result.now (omega arith)
-    (c.as_slice.ensures ∙ c.mods-item.is), c.loop-mods.invariant.counted, c.in_ok-passed.ensures.counted)
+    omega (
+      arith,
+      less_left c.args.later.now c.loop-mods.mods-index c.mods-item.result c.as_slice.result.now (omega arith)
+          (c.as_slice.ensures ∙ c.mods-item.is),
+      c.loop-mods.invariant.counted,
+      c.in_ok-passed.ensures.counted,
+    )
 
 pub returns-in-Limit-clause-left : goal.returns-in-Limit-clause-left
 returns-in-Limit-clause-left g c =
@@ -68,13 +73,23 @@ returns-in-Limit-clause-limit g c =
 
 pub returns-in-Limit-clause-counted : goal.returns-in-Limit-clause-counted
 returns-in-Limit-clause-counted g c =
-    omega (arith, less_left c.args.later.now c.loop-mods.mods-index c.mods-item.result c.as_slice.result.now (omega arith)
-    (c.as_slice.ensures ∙ c.mods-item.is), c.loop-mods.invariant.counted, c.in_ok-passed.ensures.counted)
+    omega (
+      arith,
+      less_left c.args.later.now c.loop-mods.mods-index c.mods-item.result c.as_slice.result.now (omega arith)
+          (c.as_slice.ensures ∙ c.mods-item.is),
+      c.loop-mods.invariant.counted,
+      c.in_ok-passed.ensures.counted,
+    )
 
 pub returns-in_err-passed-clause-counted : goal.returns-in_err-passed-clause-counted
 returns-in_err-passed-clause-counted g c =
-    omega (arith, less_left c.args.later.now c.loop-mods.mods-index c.mods-item.result c.as_slice.result.now (omega arith)
-    (c.as_slice.ensures ∙ c.mods-item.is), c.loop-mods.invariant.counted, c.past_list.ensures.counted)
+    omega (
+      arith,
+      less_left c.args.later.now c.loop-mods.mods-index c.mods-item.result c.as_slice.result.now (omega arith)
+          (c.as_slice.ensures ∙ c.mods-item.is),
+      c.loop-mods.invariant.counted,
+      c.past_list.ensures.counted,
+    )
 
 pub returns-clause-left : goal.returns-clause-left
 returns-clause-left g c =
