@@ -7,6 +7,7 @@ use Rattle.tx_tree.specs.declared.faults.PlaceFault.{PlaceFault}
 use Rattle.tx_tree.specs.declared.places.Place.{Place}
 use Rattle.tx_mod.specs.declared.faults.ModFault.{ModFault}
 use Rattle.tx_mod.specs.declared.mods.Mod.{Mod}
+use Rattle.tx_mod.specs.InTurn.{AreSoundMods}
 use Rattle.tx_scm.specs.Canonical.{scheme_text}
 use Rattle.tx_doc.specs.Forms.{form_of}
 use Rattle.tx_doc.specs.Buffers.{document_of, tree_of, number_of}
@@ -79,9 +80,11 @@ IsKeyAnswer state (Ok (KeyEdit mods to)) next reply = IsEditAnswer state (edited
 IsKeyAnswer state (Ok (MoveTo to)) next reply = (next ≡ record state { cursor = to }) × (reply ≡ done_reply)
 IsKeyAnswer state (Err fault) next reply = (fault ≢ Memory) × (next ≡ state) × (reply ≡ key_reply fault)
 
--- an earlier edit was taken back by an edit, which was done or refused; or why there is no such edit
+-- an earlier edit was taken back by an edit, the parts of which are well formed, and which was done or refused; or why
+-- there is no such edit
 abbrev pub IsLeaveAnswer : State → Result Edit LeaveFault → State → List ℕ → Type 0
-IsLeaveAnswer state (Ok edit) next reply = IsEditAnswer state (edited edit state) next reply
+IsLeaveAnswer state (Ok edit) next reply =
+    AreSoundMods edit.mods × IsEditAnswer state (edited edit state) next reply
 IsLeaveAnswer state (Err fault) next reply = (fault ≢ LeaveMemory) × (next ≡ state) × (reply ≡ leave_reply fault)
 
 -- an edit was taken back or made again, or there was none

@@ -1,23 +1,28 @@
 -- A walk back through entries finds the edits that they take back.
 use Rattle.std.proofs.Common.{◌≡◌, ℕ, zero, suc, ◌<◌, ◌≤◌, ◌+◌, ◌*◌, ◌-◌, Bool, true, false, List, [], ◌∷◌, ◌++◌, length}
-use Rattle.std.proofs.Common.{take, drop, reverse, map, Option, Some, None, Ok, Err, refl, sym, ap, ◌∙◌, subst, arith, append_assoc}
-use Rattle.std.specs.Prelude.{◌==◌, if◌then◌else◌, unwrap_or, slice_get, IsOk}
+use Rattle.std.proofs.Common.{take, drop, reverse, map, Option, Some, None, Result, Ok, Err, refl, sym, ap, ◌∙◌, subst, arith, append_assoc}
+use Rattle.std.specs.Prelude.{◌==◌, if◌then◌else◌, unwrap_or, slice_get, IsOk, IfOk}
 use Rattle.std.specs.List.{AllByRecursion}
 use Rattle.std.specs.Option.{option_map_or}
 use Rattle.std.proofs.lemmas.Bool.{eqb-true, eqb-false}
-use Rattle.std.proofs.lemmas.List.{reverse-append, append-nil, length-reverse, length-take-le}
+use Rattle.std.proofs.lemmas.List.{reverse-append, append-nil, length-reverse}
 use Rattle.tx_tree.specs.WideTree.{WideTree, leaf}
-use Rattle.tx_tree.specs.Limits.{IsWithinLimits}
+use Rattle.tx_tree.specs.Limits.{IsWellFormed, IsWithinLimits}
+use Rattle.tx_tree.specs.Paths.{subtree}
+use Rattle.tx_tree.proofs.ShortPaths.{path_short}
 use Rattle.tx_mod.specs.declared.mods.Mod.{Mod}
 use Rattle.tx_mod.specs.Changes.{Outcome, changed}
 use Rattle.tx_mod.specs.Followed.{outcome_tree as made_of}
 use Rattle.tx_mod.specs.InTurn.{then_changed, changed_in_turn, inverses_of, cost_of, AreSoundMods}
+use Rattle.tx_mod.specs.Inverses.{inverse_of}
 use Rattle.tx_mod.specs.Mods.{path_of}
+use Rattle.tx_mod.proofs.Back.{same_tree}
 use Rattle.tx_mod.proofs.Formed.{change_limited}
 use Rattle.tx_mod.proofs.InTurn.{begun, inverses_from, path_of_inverse}
 use Rattle.tx_mod.proofs.Lists.{get_of_set_other}
-use Rattle.tx_commute.specs.Leaving.{LeftOut, left_out, lists_in_turn, total}
-use Rattle.tx_commute.proofs.OnePast.{ok_cost}
+use Rattle.tx_mod.proofs.Whole.{no_change}
+use Rattle.tx_commute.specs.Leaving.{LeftOut, without, left_out, lists_in_turn, total, LeaveLaw}
+use Rattle.tx_history.specs.Lists.{kth_newest}
 use Rattle.tx_doc.specs.declared.buffer.Buffer.{Buffer}
 use Rattle.tx_doc.specs.Buffers.{tree_of, with_tree}
 use Rattle.tx_state.specs.declared.edits.Entry.{Entry}
@@ -25,8 +30,9 @@ use Rattle.tx_state.specs.declared.backward.Backward.{Backward}
 use Rattle.tx_state.specs.States.{KeptEdit}
 use Rattle.tx_state.specs.Entries.{led_to, kept_edits, undoes, EntryLeads, EntriesLead}
 use Rattle.tx_state.specs.Backward.{tree_before, edit_before, AppliesIn, tree_back, edits_back, AllApplyIn, AreLeading}
-use Rattle.tx_state.specs.Backward.{IsBackward, first_out, left_along}
+use Rattle.tx_state.specs.Backward.{IsBackward, first_out, left_along, MakesWithout}
 use Rattle.tx_state.specs.Leaving.{mods_in, left_before, mods_among}
+use Rattle.tx_state.specs.Ready.{cost_both_ways}
 use Rattle.tx_state.proofs.Trees.{buffer_at, put_at, tree_put, length_put}
 use Rattle.tx_state.proofs.Moments.{kept_edit, edits_of_take, lead_of_take}
 
@@ -180,7 +186,7 @@ nth_left bs es i e n all =
 -- ---- how many modifications
 
 total_both : (ls ms : List (List Mod)) → total (ls ++ ms) ≡ total ls + total ms
-total_both [] ms = refl
+total_both [] ms = omega arith
 total_both (l ∷ ls) ms = omega (arith, total_both ls ms)
 
 pub total_turned : (ls : List (List Mod)) → total (reverse ls) ≡ total ls
@@ -214,12 +220,20 @@ number_back b (e ∷ es) t = ap suc (number_back b es (tree_before b e t))
 
 -- ---- the steps of one entry
 
+-- the path of a modification that applies leads
+short_path : (m : Mod) (t : WideTree) → IsOk (changed m t) → IsWithinLimits t → length (path_of m) ≤ 399
+short_path m t h w = by_subtree (subtree t (path_of m)) refl
+  where
+    by_subtree : (o : Option WideTree) → subtree t (path_of m) ≡ o → length (path_of m) ≤ 399
+    by_subtree None e = absurd (no_change m t (path_of m) refl e h)
+    by_subtree (Some s) e = omega (arith, path_short t s (path_of m) e, w.depth)
+
 in_turn_cost : (ms : List Mod) (t u : WideTree) → IsWithinLimits t → changed_in_turn ms t ≡ Ok u
     → cost_of ms ≤ 402 * length ms
 in_turn_cost [] t u w e = omega arith
 in_turn_cost (m ∷ ms) t u w e =
     let b = begun m ms t u e in
-    let short = ok_cost m t (subst IsOk (sym b.first) refl) w in
+    let short = short_path m t (subst IsOk (sym b.first) refl) w in
     omega (arith, short, in_turn_cost ms b.next u (change_limited m t b.next b.first) b.others)
 
 same_number : (ms : List Mod) (t u : WideTree) → changed_in_turn ms t ≡ Ok u
@@ -228,11 +242,11 @@ same_number [] t u e = refl
 same_number (m ∷ ms) t u e =
     let b = begun m ms t u e in
     ap length (inverses_from m ms t b.next b.first)
-    ∙ one_longer (inverses_of ms b.next) ∙ ap suc (same_number ms b.next u b.others)
+    ∙ one_longer (inverse_of m t) (inverses_of ms b.next) ∙ ap suc (same_number ms b.next u b.others)
   where
-    one_longer : {X : Type 0} {x : X} (xs : List X) → length (xs ++ x ∷ []) ≡ suc (length xs)
-    one_longer [] = refl
-    one_longer {X} {x} (y ∷ xs) = ap suc (one_longer {X = X} {x = x} xs)
+    one_longer : (x : Mod) (xs : List Mod) → length (xs ++ x ∷ []) ≡ suc (length xs)
+    one_longer x [] = refl
+    one_longer x (y ∷ xs) = ap suc (one_longer x xs)
 
 -- a change and its inverse, by the number of modifications
 pub step_cost : (ms : List Mod) (t : WideTree) → IsWithinLimits t → IsOk (changed_in_turn ms t)
@@ -243,14 +257,23 @@ step_cost ms t w h = by_outcome (changed_in_turn ms t) refl h
     by_outcome (Ok u) e k = omega (arith, in_turn_cost ms t u w e, same_number ms t u e)
     by_outcome (Err cause) e k = absurd (cc)
 
+pub step_counted : (b : ℕ) (e : Entry) (t : WideTree) (old new : ℕ) → e.buffer ≡ b → IsWithinLimits t
+    → AppliesIn b e t → new ≤ old + cost_both_ways e.mods → new ≤ old + 804 * length (edit_before b e t)
+step_counted b e t old new same w applies h = by_test (e.buffer == b) refl
+  where
+    by_test : (q : Bool) → (e.buffer == b) ≡ q
+        → new ≤ old + 804 * length (if q then inverses_of e.mods t else [])
+    by_test true f = omega (arith, h, step_cost e.mods t w (applies same))
+    by_test false f = absurd (eqb-false e.buffer b f same)
+
 -- ---- the walk
 
 -- the walk is at the tree t, behind the first i entries, with these edits
-pub record IsWalking (b : ℕ) (es : List Entry) (i : ℕ) (start t : WideTree) (edits : List (List Mod)) : Type 0 where
+pub record IsWalking (b : ℕ) (es : List Entry) (i : ℕ) (start t : WideTree) (found : List (List Mod)) : Type 0 where
   pub apply : AllApplyIn b (drop i es) t
   pub tree : tree_back b es start ≡ tree_back b (drop i es) t
-  pub edits : reverse (edits_back b es start) ≡ reverse (edits_back b (drop i es) t) ++ reverse edits
-  pub leading : AreLeading (reverse edits) t start
+  pub edits : reverse (edits_back b es start) ≡ reverse (edits_back b (drop i es) t) ++ reverse found
+  pub leading : AreLeading (reverse found) t start
 
 pub walk_starts : (b : ℕ) (es : List Entry) (start t : WideTree) (edits : List (List Mod)) → AllApplyIn b es start
     → t ≡ start → edits ≡ [] → IsWalking b es 0 start t edits
@@ -333,3 +356,46 @@ walk_ends b es i start t edits r h end tree is =
           subst (λ w. AreLeading r.edits.items w start) (sym tree)
           (subst (λ ls. AreLeading ls t start) (sym is) h.leading);
     }
+
+-- the entry that the history names
+pub at_place : (past : List Entry) (k n : ℕ) (e : Entry) → kth_newest n past ≡ Some e → n ≡ k + 1
+    → slice_get (reverse past) k ≡ Some e
+at_place past k n e h same = let on : suc k ≡ n = omega (arith, same) in ap (λ m. kth_newest m past) on ∙ h
+
+-- ---- what the walk found
+
+pub few_taken : {X : Type 0} (n : ℕ) (xs : List X) → length (take n xs) ≤ n
+few_taken zero xs = omega arith
+few_taken (suc n) [] = omega arith
+few_taken {X} (suc n) (x ∷ xs) = omega (arith, few_taken {X = X} n xs)
+
+pub few_back : (b n : ℕ) (es : List Entry) (t : WideTree) (ls : List (List Mod))
+    → ls ≡ reverse (edits_back b (take n es) t) → length ls ≤ n
+few_back b n es t ls e =
+    omega (arith, ap length e, length-reverse (edits_back b (take n es) t), number_back b (take n es) t,
+    few_taken n es)
+
+pub total_first : (b : ℕ) (es : List Entry) (t : WideTree) (ls later : List (List Mod)) (edit : List Mod)
+    → ls ≡ reverse (edits_back b es t) → ls ≡ edit ∷ later
+    → length edit + total later ≡ total (edits_back b es t)
+total_first b es t ls later edit e first = sym (ap total first) ∙ ap total e ∙ total_turned (edits_back b es t)
+
+pub if_ok : {X Y : Type 0} {P : Type 0} (r : Result X Y) → P → IfOk r (λ _. P)
+if_ok (Ok x) p = p
+if_ok (Err y) p = tt
+
+pub makes_without : LeaveLaw → (b : ℕ) (es : List Entry) (t : WideTree) (r : Backward) → IsBackward b es t r
+    → IsWellFormed r.tree → MakesWithout (left_along b es t) t
+makes_without law b es t r h formed = λ out u mods e f.
+    by_lists r.edits.items h.leading out u mods
+    (ap (λ ls. first_out ls r.tree) h.edits ∙ ap (first_out (reverse (edits_back b es t))) h.tree ∙ e) f
+  where
+    by_lists : (ls : List (List Mod)) → AreLeading ls r.tree t → (out u : WideTree) (mods : List Mod)
+        → first_out ls r.tree ≡ without out mods → changed_in_turn mods t ≡ Ok u → u ≡ out
+    by_lists [] l out u mods e f =
+        let none : mods ≡ [] = cc in
+        let same : r.tree ≡ out = cc in
+        let there : changed_in_turn [] t ≡ Ok u = subst (λ ms. changed_in_turn ms t ≡ Ok u) none f in
+        sym (same_tree t u there) ∙ sym (same_tree r.tree t l.leads) ∙ same
+    by_lists (edit ∷ later) l out u mods e f =
+        (law r.tree t out edit mods later l.sound.0 l.sound.1 formed l.leads e).back u f

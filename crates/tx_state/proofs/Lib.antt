@@ -7,3 +7,4 @@ pub mod Restoring
 pub mod MadeReady
 pub mod Costs
 pub mod GoingBack
+pub mod TakenBack

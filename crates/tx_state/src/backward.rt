@@ -22,7 +22,7 @@ pub(crate) struct Backward {
 }
 
 // Modifications in hand are sound.
-fn all_sound(mods: &[Mod])
+pub(crate) fn all_sound(mods: &[Mod])
     ensures { AreSoundMods mods.now }
 {
     for m in mods {
