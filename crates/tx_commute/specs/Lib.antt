@@ -1,0 +1,6 @@
+pub mod Free
+pub mod Pasts
+pub mod Knowing
+pub mod Leaving
+pub mod Midways
+pub mod Ways

@@ -1,0 +1,17 @@
+//! Taking one modification past another: what is left of both when the first is left out.
+#![tactic(auto)]
+
+mod carrying;
+mod known;
+mod laws;
+mod leaving;
+mod many;
+mod numbers;
+mod pairs;
+mod midway;
+mod placing;
+mod ways;
+
+pub use laws::{carried_back_law, leave_law, past_law};
+pub use leaving::{Left, leave};
+pub use pairs::past_of;
