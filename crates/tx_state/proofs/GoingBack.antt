@@ -1,8 +1,8 @@
 -- A walk back through entries finds the edits that they take back.
 use Rattle.std.proofs.Common.{◌≡◌, ℕ, zero, suc, ◌<◌, ◌≤◌, ◌+◌, ◌*◌, ◌-◌, Bool, true, false, List, [], ◌∷◌, ◌++◌, length}
-use Rattle.std.proofs.Common.{take, drop, reverse, map, Option, Some, None, Result, Ok, Err, refl, sym, ap, ◌∙◌, subst, arith, append_assoc}
+use Rattle.std.proofs.Common.{take, drop, reverse, map, Option, Some, None, Result, Ok, Err, refl, sym, ap}
+use Rattle.std.proofs.Common.{◌∙◌, subst, arith, append_assoc}
 use Rattle.std.specs.Prelude.{◌==◌, if◌then◌else◌, unwrap_or, slice_get, IsOk, IfOk}
-use Rattle.std.specs.List.{AllByRecursion}
 use Rattle.std.specs.Option.{option_map_or}
 use Rattle.std.proofs.lemmas.Bool.{eqb-true, eqb-false}
 use Rattle.std.proofs.lemmas.List.{reverse-append, append-nil, length-reverse}
@@ -18,10 +18,10 @@ use Rattle.tx_mod.specs.Inverses.{inverse_of}
 use Rattle.tx_mod.specs.Mods.{path_of}
 use Rattle.tx_mod.proofs.Back.{same_tree}
 use Rattle.tx_mod.proofs.Formed.{change_limited}
-use Rattle.tx_mod.proofs.InTurn.{begun, inverses_from, path_of_inverse}
+use Rattle.tx_mod.proofs.InTurn.{begun, inverses_from}
 use Rattle.tx_mod.proofs.Lists.{get_of_set_other}
 use Rattle.tx_mod.proofs.Whole.{no_change}
-use Rattle.tx_commute.specs.Leaving.{LeftOut, without, left_out, lists_in_turn, total, LeaveLaw}
+use Rattle.tx_commute.specs.Leaving.{without, left_out, lists_in_turn, total, LeaveLaw}
 use Rattle.tx_history.specs.Lists.{kth_newest}
 use Rattle.tx_doc.specs.declared.buffer.Buffer.{Buffer}
 use Rattle.tx_doc.specs.Buffers.{tree_of, with_tree}
@@ -81,11 +81,10 @@ applies_in bs b e leads = λ same.
 
 pub all_apply : (bs : List Buffer) (b : ℕ) (es : List Entry) → EntriesLead bs es → AllApplyIn b es (tree_of bs b)
 all_apply bs b [] h = tt
-all_apply bs b (e ∷ es) h =
-    (
-      applies_in bs b e h.0,
-      subst (AllApplyIn b es) (sym (before_is bs b e h.0)) (all_apply (led_to bs e) b es h.1),
-    )
+all_apply bs b (e ∷ es) h = (
+  applies_in bs b e h.0,
+  subst (AllApplyIn b es) (sym (before_is bs b e h.0)) (all_apply (led_to bs e) b es h.1),
+)
 
 -- the buffers after entries
 abbrev pub led_along : List Buffer → List Entry → List Buffer
@@ -372,8 +371,13 @@ few_taken {X} (suc n) (x ∷ xs) = omega (arith, few_taken {X = X} n xs)
 pub few_back : (b n : ℕ) (es : List Entry) (t : WideTree) (ls : List (List Mod))
     → ls ≡ reverse (edits_back b (take n es) t) → length ls ≤ n
 few_back b n es t ls e =
-    omega (arith, ap length e, length-reverse (edits_back b (take n es) t), number_back b (take n es) t,
-    few_taken n es)
+    omega (
+      arith,
+      ap length e,
+      length-reverse (edits_back b (take n es) t),
+      number_back b (take n es) t,
+      few_taken n es,
+    )
 
 pub total_first : (b : ℕ) (es : List Entry) (t : WideTree) (ls later : List (List Mod)) (edit : List Mod)
     → ls ≡ reverse (edits_back b es t) → ls ≡ edit ∷ later

@@ -1,5 +1,5 @@
 -- The edit that takes one earlier edit of a state in hand back.
-use Rattle.std.proofs.Common.{◌≡◌, ℕ, zero, suc, ◌<◌, ◌≤◌, ◌+◌, ◌*◌, ◌-◌, List, [], ◌∷◌, length, take, drop, reverse, Option, Some}
+use Rattle.std.proofs.Common.{◌≡◌, ℕ, zero, suc, ◌<◌, ◌≤◌, ◌+◌, ◌*◌, ◌-◌, List, [], ◌∷◌, length, take, drop, reverse, Some}
 use Rattle.std.proofs.Common.{None, Result, Ok, Err, refl, sym, ap, ◌∙◌, subst, arith}
 use Rattle.std.specs.Prelude.{slice_get}
 use Rattle.std.proofs.lemmas.Option.{slice_get_within}
@@ -18,7 +18,6 @@ use Rattle.tx_doc.specs.Buffers.{tree_of}
 use Rattle.tx_doc.specs.declared.buffer.Buffer.{Buffer}
 use Rattle.tx_state.specs.declared.edits.Edit.{Edit}
 use Rattle.tx_state.specs.declared.edits.Entry.{Entry}
-use Rattle.tx_state.specs.declared.faults.LeaveFault.{LeaveFault}
 use Rattle.tx_state.specs.declared.faults.LeaveFault.TheVariants as faults
 use Rattle.tx_state.specs.declared.state.EditorState.TheInside.{Inside}
 use Rattle.tx_state.specs.States.{State, KeptEdit}
@@ -117,8 +116,13 @@ pub entangled_within : (s : Inside) (n j : ℕ) (e : Entry) → n ≤ length s.h
 entangled_within s n j e many h =
     let es : List Entry = reverse s.history.past in
     let lists : List (List Mod) = edits_back e.buffer (take n es) (tree_of s.buffers.items e.buffer) in
-    omega (arith, entangled_before (reverse lists) j _ h, length-reverse lists,
-    number_back e.buffer (take n es) (tree_of s.buffers.items e.buffer), few_taken n es)
+    omega (
+      arith,
+      entangled_before (reverse lists) j _ h,
+      length-reverse lists,
+      number_back e.buffer (take n es) (tree_of s.buffers.items e.buffer),
+      few_taken n es,
+    )
 
 -- ---- the tree that the edit makes
 
@@ -170,6 +174,6 @@ pub leave_steps : (s : Inside) (n : ℕ) (e : Entry) (st : State) (t : WideTree)
     → new ≤ old + 1609 * mods_among (take n st.past)
 leave_steps s n e st t old new whole l is same h =
     let there : new ≤ old + 1609 * total (edits_back e.buffer (take n (reverse s.history.past))
-        (tree_of s.buffers.items e.buffer)) =
+    (tree_of s.buffers.items e.buffer)) =
     subst (λ w. new ≤ old + 1609 * total (edits_back e.buffer (take n (reverse s.history.past)) w)) same h in
     omega (arith, there, l.cost, ap (λ x. mods_among (take n x.past)) is)

@@ -1,5 +1,5 @@
 -- What comes of taking one earlier edit back, and no other.
-use Rattle.std.specs.Prelude.{◌≡◌, ◌==◌, ◌+◌, ◌-◌, ℕ, zero, suc, if◌then◌else◌, List, [], ◌∷◌, length, map, reverse, take, drop}
+use Rattle.std.specs.Prelude.{◌==◌, ◌+◌, ◌-◌, ℕ, zero, suc, if◌then◌else◌, List, [], ◌∷◌, length, map, reverse, take, drop}
 use Rattle.std.specs.Prelude.{Option, Some, None, Result, Ok, Err}
 use Rattle.tx_tree.specs.WideTree.{WideTree}
 use Rattle.tx_mod.specs.declared.mods.Mod.{Mod}

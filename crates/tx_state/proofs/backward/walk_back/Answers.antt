@@ -1,4 +1,4 @@
-use Rattle.std.proofs.Common.{rules, ◌≡◌, ◌<◌, ◌≤◌, ◌+◌, [], Some, length, reverse, take, drop, refl, ap, arith}
+use Rattle.std.proofs.Common.{rules, ◌≡◌, ◌<◌, ◌≤◌, ◌+◌, [], Some, reverse, take, drop, refl, ap, arith}
 use Rattle.std.proofs.lemmas.List.{drop_all}
 use Rattle.tx_commute.specs.Leaving.{total}
 use Rattle.tx_history.specs.Lists.{kth_newest}
@@ -84,4 +84,3 @@ returns-clause-backward g c =
     let turned : c.reverse.new.self.items ≡ reverse c.loop-k.edits.items = search rules in
     walk_ends c.args.buffer es c.loop-k.k c.args.tree.now c.loop-k.now c.loop-k.edits.items
     (record { tree = c.loop-k.now; edits = c.reverse.new.self }) c.loop-k.invariant.walking end refl turned
-

@@ -1,4 +1,4 @@
-use Rattle.std.proofs.Common.{◌≡◌, ◌≤◌, ◌+◌, ◌*◌, take, drop, reverse}
+use Rattle.std.proofs.Common.{◌≤◌, ◌+◌, ◌*◌, take, drop, reverse}
 use Rattle.tx_commute.specs.Leaving.{total}
 use Rattle.tx_state.specs.Backward.{edits_back}
 use Rattle.tx_state.proofs.GoingBack.{IsWalking}

@@ -165,4 +165,3 @@ returns-in-Refused-clause-counted g c =
     c.tree_at-tree.ensures ∙ ap (λ bs. tree_of bs e.buffer) c.deref.ensures.value in
     leave_steps s c.args.n e c.args.self.now c.tree_at-tree.result.now c.args.steps.now c.left_of.new.steps
     (whole_of s c.args.n e) l c.self.view_is same c.left_of.ensures.counted
-
