@@ -60,8 +60,8 @@ use Rattle.tx_session.specs.Runs.{seen_start, start_with}
 use Rattle.tx_session.specs.Savings.{IsSavedAlone, IsNotSaved, StandsAmong}
 use Rattle.tx_session.specs.Scripts.{Answered, command_line}
 use Rattle.tx_session.specs.States.{IsAnswer, IsEditAnswer, IsKeyAnswer, IsStepAnswer, IsChoice, IsClickAnswer}
-use Rattle.tx_session.specs.States.{IsAskedAnswer, IsLeaveAnswer, IsViewAnswer, selected_edit, selected_tree, key_edit, by_typing}
-use Rattle.tx_session.specs.States.{by_backspace, by_enter, whole_place, save_reply, file_saved}
+use Rattle.tx_session.specs.States.{IsAskedAnswer, IsLeaveAnswer, IsViewAnswer, selected_edit, selected_tree, key_edit}
+use Rattle.tx_session.specs.States.{by_typing, by_backspace, by_enter, whole_place, save_reply, file_saved}
 use Rattle.tx_session.specs.Worlds.{SeenWorld, World, IsAsBefore, seen_of_world, StoresFile, LineMark, plain, lacking}
 use Rattle.tx_session.specs.Worlds.{unsaved, told}
 use Rattle.tx_session.proofs.Determined.{one_reading, was_read}

@@ -1,6 +1,6 @@
 -- The edit that takes one earlier edit of a state in hand back.
-use Rattle.std.proofs.Common.{◌≡◌, ℕ, zero, suc, ◌<◌, ◌≤◌, ◌+◌, ◌*◌, ◌-◌, List, [], ◌∷◌, length, take, drop, reverse, Some}
-use Rattle.std.proofs.Common.{None, Result, Ok, Err, refl, sym, ap, ◌∙◌, subst, arith}
+use Rattle.std.proofs.Common.{◌≡◌, ℕ, zero, suc, ◌<◌, ◌≤◌, ◌+◌, ◌*◌, ◌-◌, List, [], ◌∷◌, length, take, drop}
+use Rattle.std.proofs.Common.{reverse, Some, None, Result, Ok, Err, refl, sym, ap, ◌∙◌, subst, arith}
 use Rattle.std.specs.Prelude.{slice_get}
 use Rattle.std.proofs.lemmas.Option.{slice_get_within}
 use Rattle.std.proofs.lemmas.List.{length-reverse}
@@ -11,8 +11,8 @@ use Rattle.tx_mod.specs.Changes.{Outcome}
 use Rattle.tx_mod.specs.InTurn.{changed_in_turn}
 use Rattle.tx_commute.specs.declared.leaving.Left.{Left}
 use Rattle.tx_commute.specs.declared.leaving.Left.TheVariants.{Mods, Entangled, Refused}
-use Rattle.tx_commute.specs.Leaving.{Course, passed, stuck, past_limit, through, go_on, leave_from, LeftOut, without, entangled}
-use Rattle.tx_commute.specs.Leaving.{refused, IsLeft, total}
+use Rattle.tx_commute.specs.Leaving.{Course, passed, stuck, past_limit, through, go_on, leave_from, LeftOut}
+use Rattle.tx_commute.specs.Leaving.{without, entangled, refused, IsLeft, total}
 use Rattle.tx_history.specs.Lists.{kth_newest}
 use Rattle.tx_doc.specs.Buffers.{tree_of}
 use Rattle.tx_doc.specs.declared.buffer.Buffer.{Buffer}
@@ -97,7 +97,8 @@ is_refused b k j cause (refused i why) left h e =
 entangled_from : (later : List (List Mod)) (k j : ℕ) (t : WideTree) (ls : List Mod)
     → leave_from later k t ls ≡ entangled j → j < k + length later
 entangled_from [] k j t ls e = absurd (cc)
-entangled_from (bs ∷ rest) k j t ls e = by_course (λ u left f. entangled_from rest (k + 1) j u left f) (through bs t ls) e
+entangled_from (bs ∷ rest) k j t ls e =
+    by_course (λ u left f. entangled_from rest (k + 1) j u left f) (through bs t ls) e
   where
     by_course : ((u : WideTree) (left : List Mod) → leave_from rest (k + 1) u left ≡ entangled j
         → j < k + 1 + length rest) → (c : Course) → go_on (leave_from rest (k + 1)) k c ≡ entangled j

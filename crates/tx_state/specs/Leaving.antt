@@ -1,6 +1,6 @@
 -- What comes of taking one earlier edit back, and no other.
-use Rattle.std.specs.Prelude.{◌==◌, ◌+◌, ◌-◌, ℕ, zero, suc, if◌then◌else◌, List, [], ◌∷◌, length, map, reverse, take, drop}
-use Rattle.std.specs.Prelude.{Option, Some, None, Result, Ok, Err}
+use Rattle.std.specs.Prelude.{◌==◌, ◌+◌, ◌-◌, ℕ, zero, suc, if◌then◌else◌, List, [], ◌∷◌, length, map}
+use Rattle.std.specs.Prelude.{reverse, take, drop, Option, Some, None, Result, Ok, Err}
 use Rattle.tx_tree.specs.WideTree.{WideTree}
 use Rattle.tx_mod.specs.declared.mods.Mod.{Mod}
 use Rattle.tx_commute.specs.Leaving.{LeftOut, without, entangled, refused, left_out}
@@ -19,8 +19,8 @@ abbrev pub left_before : KeptEdit → List KeptEdit → LeftOut
 left_before kept later =
     left_out (tree_of kept.moment.buffers kept.buffer) kept.mods (reverse (map (mods_in kept.buffer) later))
 
--- The edit that takes one back after which n others came, or why there is none. The number k of a later edit counts from
--- the first one on, from 0; the fault counts from the last one back, from 1.
+-- The edit that takes one back after which n others came, or why there is none. The number k of a later edit counts
+-- from the first one on, from 0; the fault counts from the last one back, from 1.
 abbrev pub taking_back : (buffer n : ℕ) → LeftOut → Result Edit LeaveFault
 taking_back buffer n (without out mods) = Ok (record { buffer = buffer; mods = mods; cursor = None })
 taking_back buffer n (entangled k) = Err (Entangled (n - k))

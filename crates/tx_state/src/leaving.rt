@@ -1,12 +1,10 @@
 // One earlier edit is left out.
-ghost use Rattle.std.specs.Prelude.{◌≡◌, ◌≤◌, ◌<◌, ◌+◌, ◌*◌, ◌-◌, IfOk, length, reverse, take, ℕ};
+ghost use Rattle.std.specs.Prelude.{◌≤◌, ◌+◌, ◌*◌, IfOk, length, reverse, take};
 ghost use Rattle.tx_commute.specs.Leaving.{total, IsLeft};
 ghost use Rattle.tx_state.specs.Backward.{AllApplyIn, edits_back, left_along, MakesWithout};
-ghost use Rattle.tx_state.specs.Leaving.{taking_back};
 
 use crate::backward::walk_back;
-use crate::edits::{Edit, Entry};
-use crate::faults::LeaveFault;
+use crate::edits::Entry;
 use std::alloc::Global;
 use std::sync::ledger::Ledger;
 use tx_base::{Memory, Steps};
@@ -14,8 +12,8 @@ use tx_commute::{Left, leave, leave_law};
 use tx_history::History;
 use tx_tree::Tree;
 
-// What comes of leaving the edit of this number out, the last one being 1, which is one of this buffer, the tree of which
-// is the present one.
+// What comes of leaving the edit of this number out, the last one being 1. It is an edit of this buffer, which has the
+// tree now.
 pub(crate) fn left_of<L: Ledger>(
     alloc: Global,
     history: &History<Entry>,

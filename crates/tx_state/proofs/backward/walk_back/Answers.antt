@@ -37,7 +37,8 @@ returns-in_err-before-clause-counted g c =
     let less : c.loop-k.k < c.args.count = search rules in
     let next = next_entry (reverse past) c.args.count c.loop-k.k e (at_place past c.loop-k.k (c.loop-k.k + 1) e at refl)
     less in
-    let part = walk_less c.args.buffer es c.loop-k.k c.loop-k.now (tree_before c.args.buffer e c.loop-k.now) e next refl in
+    let before = tree_before c.args.buffer e c.loop-k.now in
+    let part = walk_less c.args.buffer es c.loop-k.k c.loop-k.now before e next refl in
     omega (arith, part, c.loop-k.invariant.counted, c.step_back.ensures.counted)
 
 pub returns-in_err-push-clause-counted : goal.returns-in_err-push-clause-counted
@@ -49,7 +50,8 @@ returns-in_err-push-clause-counted g c =
     let less : c.loop-k.k < c.args.count = search rules in
     let next = next_entry (reverse past) c.args.count c.loop-k.k e (at_place past c.loop-k.k (c.loop-k.k + 1) e at refl)
     less in
-    let part = walk_less c.args.buffer es c.loop-k.k c.loop-k.now (tree_before c.args.buffer e c.loop-k.now) e next refl in
+    let before = tree_before c.args.buffer e c.loop-k.now in
+    let part = walk_less c.args.buffer es c.loop-k.k c.loop-k.now before e next refl in
     omega (arith, part, c.loop-k.invariant.counted, c.step_back.ensures.counted)
 
 pub loop-k-preserved : goal.loop-k-preserved

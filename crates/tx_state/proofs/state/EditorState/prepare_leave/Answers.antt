@@ -53,7 +53,8 @@ overflow_sub-result-in-Entangled g c =
     let left : IsLeft whole c.in_ok-mods.field-0 =
     subst (λ t. IsLeft (left_along e.buffer (take c.args.n (reverse s.history.past)) t) c.in_ok-mods.field-0) same
     c.in_ok-mods.ensures.left in
-    let is = (is_entangled e.buffer (c.args.n - 1) c.in-Entangled.k whole c.in_ok-mods.field-0 left c.in-Entangled.is).0 in
+    let k = c.in-Entangled.k in
+    let is = (is_entangled e.buffer (c.args.n - 1) k whole c.in_ok-mods.field-0 left c.in-Entangled.is).0 in
     let within = entangled_within s c.args.n c.in-Entangled.k e l.many is in
     omega (arith, within)
 
