@@ -239,8 +239,6 @@ no_redo_keeps now after e h =
     h ∙ sym (ap (λ o. if is_none o then k
     else option_map_or (carried_keep state.buffers after.seen.state.buffers k) (redone_mods state.future) k) e)
 
--- ---- steps
-
 -- ---- an earlier edit
 
 abbrev kept_by : Result Edit LeaveFault → WholeSession → State → Keep
@@ -279,7 +277,9 @@ not_left_keeps n (leaves.Refused cause) whole reply h e =
 not_left_keeps n leaves.Memory whole reply h e =
     subst (λ r. Keeps whole (UndoAt n) (reply_mark r) whole) (sym (h.1 refl)) refl
 
--- the steps of both
+-- ---- steps
+
+-- finding what takes an earlier edit back, and doing it
 pub leave_counted : (n : ℕ) (edit : Edit) (state : State) (old between new reach : ℕ) → leaving n state ≡ Ok edit
     → between ≤ old + 1609 * reach → new ≤ between + edit_cost edit.mods (edited edit state)
     → new ≤ old + (1609 * reach + leave_cost state (leaving n state))
