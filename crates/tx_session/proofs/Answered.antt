@@ -122,7 +122,7 @@ leave_replied n before after store plain reply h =
     done (UndoAt n) before after store reply h.0 h.1.fresh h.1.width h.1.height refl
 leave_replied n before after store lacking reply h = lacked (UndoAt n) before after store reply refl h
 leave_replied n before after store unsaved reply h = absurd h
-leave_replied n before after store (told n) reply h = absurd h
+leave_replied n before after store (told k) reply h = absurd h
 
 -- the edit that takes an earlier one back was done or refused
 pub leave_changed : (r : Result StateEdit LeaveFault) (edit : StateEdit) (before after : SeenSession) (mark : LineMark)
