@@ -20,6 +20,7 @@ use Rattle.tx_mod.specs.declared.mods.Mod.TheVariants.{RemoveNode}
 use Rattle.tx_mod.specs.Mods.{path_of}
 use Rattle.tx_cmd.specs.declared.command.Command.{Command}
 use Rattle.tx_cmd.specs.declared.command.Command.TheVariants.{Change, Undo, Redo, At, Go, Click, Left, Right, Typed}
+use Rattle.tx_cmd.specs.declared.command.Command.TheVariants.{UndoAt}
 use Rattle.tx_cmd.specs.declared.command.Command.TheVariants.{Backspace, Enter, Show, Page, Errors, PlaceOf, Cursor}
 use Rattle.tx_cmd.specs.declared.command.Command.TheVariants.{Attrs, Work, Tree, Save, Quit}
 use Rattle.tx_cmd.specs.declared.command.CmdFault.{CmdFault}
@@ -31,6 +32,7 @@ use Rattle.tx_cmd.specs.declared.words.ModWord.TheVariants.{AssignNode as Assign
 use Rattle.tx_cmd.specs.declared.words.ModWord.TheVariants.{RemoveNode as RemoveNodeWord}
 use Rattle.tx_cmd.specs.declared.words.Word.{Word}
 use Rattle.tx_cmd.specs.declared.words.Word.TheVariants.{Change as ChangeWord, Undo as UndoWord, Redo as RedoWord}
+use Rattle.tx_cmd.specs.declared.words.Word.TheVariants.{UndoAt as UndoAtWord}
 use Rattle.tx_cmd.specs.declared.words.Word.TheVariants.{At as AtWord, Go as GoWord, Click as ClickWord}
 use Rattle.tx_cmd.specs.declared.words.Word.TheVariants.{Left as LeftWord, Right as RightWord, Typed as TypedWord}
 use Rattle.tx_cmd.specs.declared.words.Word.TheVariants.{Backspace as BackspaceWord, Enter as EnterWord}
@@ -149,6 +151,7 @@ mod_kinds (RemoveNode p i) = refl
 command_kinds : (c : Command) → kinds (values_of c) ≡ arguments_of (command_word c)
 command_kinds (Change m) = ap (λ x. PathArgument ∷ x) (mod_kinds m)
 command_kinds Undo = refl
+command_kinds (UndoAt n) = refl
 command_kinds Redo = refl
 command_kinds (At n) = refl
 command_kinds (Go p) = refl
@@ -192,6 +195,7 @@ made WhereWord (a_number r ∷ a_number k ∷ []) = PlaceOf r k
 made AttrsWord (a_number r ∷ []) = Attrs r
 made SaveWord (a_name n ∷ []) = Save n
 made UndoWord [] = Undo
+made UndoAtWord (a_number n ∷ []) = UndoAt n
 made RedoWord [] = Redo
 made LeftWord [] = Left
 made RightWord [] = Right
@@ -217,6 +221,7 @@ mod_made_again (RemoveNode p i) = refl
 made_again : (c : Command) → made (command_word c) (values_of c) ≡ c
 made_again (Change m) = mod_made_again m
 made_again Undo = refl
+made_again (UndoAt n) = refl
 made_again Redo = refl
 made_again (At n) = refl
 made_again (Go p) = refl

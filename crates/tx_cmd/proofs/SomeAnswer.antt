@@ -25,6 +25,7 @@ use Rattle.tx_mod.specs.declared.mods.Mod.TheVariants.{RemoveNode}
 use Rattle.tx_cmd.specs.declared.TheConstants.{MOST_LINE}
 use Rattle.tx_cmd.specs.declared.command.Command.{Command}
 use Rattle.tx_cmd.specs.declared.command.Command.TheVariants.{Change, Undo, Redo, At, Go, Click, Left, Right, Typed}
+use Rattle.tx_cmd.specs.declared.command.Command.TheVariants.{UndoAt}
 use Rattle.tx_cmd.specs.declared.command.Command.TheVariants.{Backspace, Enter, Show, Page, Errors, PlaceOf, Cursor}
 use Rattle.tx_cmd.specs.declared.command.Command.TheVariants.{Attrs, Work, Tree, Save, Quit}
 use Rattle.tx_cmd.specs.declared.command.CmdFault.{CmdFault}
@@ -35,6 +36,7 @@ use Rattle.tx_cmd.specs.declared.words.ModWord.TheVariants.{AssignNode as Assign
 use Rattle.tx_cmd.specs.declared.words.ModWord.TheVariants.{RemoveNode as RemoveNodeWord}
 use Rattle.tx_cmd.specs.declared.words.Word.{Word}
 use Rattle.tx_cmd.specs.declared.words.Word.TheVariants.{Change as ChangeWord, Undo as UndoWord, Redo as RedoWord}
+use Rattle.tx_cmd.specs.declared.words.Word.TheVariants.{UndoAt as UndoAtWord}
 use Rattle.tx_cmd.specs.declared.words.Word.TheVariants.{At as AtWord, Go as GoWord, Click as ClickWord}
 use Rattle.tx_cmd.specs.declared.words.Word.TheVariants.{Left as LeftWord, Right as RightWord, Typed as TypedWord}
 use Rattle.tx_cmd.specs.declared.words.Word.TheVariants.{Backspace as BackspaceWord, Enter as EnterWord}
@@ -315,6 +317,7 @@ made_of (ChangeWord AssignNodeWord) h = (Change (AssignNode h.0 h.1.0), refl, re
 made_of (ChangeWord InsertNodeWord) h = (Change (InsertNode h.0 h.1.0 h.1.1.0), refl, refl)
 made_of (ChangeWord RemoveNodeWord) h = (Change (RemoveNode h.0 h.1.0), refl, refl)
 made_of UndoWord h = (Undo, refl, refl)
+made_of UndoAtWord h = (UndoAt h.0, refl, refl)
 made_of RedoWord h = (Redo, refl, refl)
 made_of AtWord h = (At h.0, refl, refl)
 made_of GoWord h = (Go h.0, refl, refl)

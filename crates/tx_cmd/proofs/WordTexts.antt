@@ -10,6 +10,7 @@ use Rattle.tx_cmd.specs.declared.words.ModWord.TheVariants.{Assign, Insert, Remo
 use Rattle.tx_cmd.specs.declared.words.ModWord.TheVariants.{RemoveNode}
 use Rattle.tx_cmd.specs.declared.words.Word.{Word}
 use Rattle.tx_cmd.specs.declared.words.Word.TheVariants.{Change, Undo, Redo, At, Go, Click, Left, Right, Typed}
+use Rattle.tx_cmd.specs.declared.words.Word.TheVariants.{UndoAt}
 use Rattle.tx_cmd.specs.declared.words.Word.TheVariants.{Backspace, Enter, Show, Page, Errors, Where, Cursor, Attrs}
 use Rattle.tx_cmd.specs.declared.words.Word.TheVariants.{Work, Tree, Save, Quit}
 use Rattle.tx_cmd.specs.Words.{word_text, arguments_of, HasNoSpace, IsKnown}
@@ -19,8 +20,8 @@ use Rattle.tx_cmd.specs.Pieces.{tree_is_last}
 abbrev all_words : List Word
 all_words =
     Change Assign ∷ Change Insert ∷ Change Remove ∷ Change Split ∷ Change Join ∷ Change AssignNode ∷ Change InsertNode
-    ∷ Change RemoveNode ∷ Undo ∷ Redo ∷ At ∷ Go ∷ Click ∷ Left ∷ Right ∷ Typed ∷ Backspace ∷ Enter ∷ Show ∷ Page
-    ∷ Errors ∷ Where ∷ Cursor ∷ Attrs ∷ Work ∷ Tree ∷ Save ∷ Quit ∷ []
+    ∷ Change RemoveNode ∷ Undo ∷ UndoAt ∷ Redo ∷ At ∷ Go ∷ Click ∷ Left ∷ Right ∷ Typed ∷ Backspace ∷ Enter
+    ∷ Show ∷ Page ∷ Errors ∷ Where ∷ Cursor ∷ Attrs ∷ Work ∷ Tree ∷ Save ∷ Quit ∷ []
 
 abbrev pub word_named : List ℕ → Option Word
 word_named x = find (λ w. bytes_eq (word_text w) x) all_words
@@ -35,6 +36,7 @@ named (Change AssignNode) = refl
 named (Change InsertNode) = refl
 named (Change RemoveNode) = refl
 named Undo = refl
+named UndoAt = refl
 named Redo = refl
 named At = refl
 named Go = refl
@@ -94,6 +96,7 @@ spelled_without (Change AssignNode) = refl
 spelled_without (Change InsertNode) = refl
 spelled_without (Change RemoveNode) = refl
 spelled_without Undo = refl
+spelled_without UndoAt = refl
 spelled_without Redo = refl
 spelled_without At = refl
 spelled_without Go = refl
@@ -127,6 +130,7 @@ arguments_in_order (Change AssignNode) = refl
 arguments_in_order (Change InsertNode) = refl
 arguments_in_order (Change RemoveNode) = refl
 arguments_in_order Undo = refl
+arguments_in_order UndoAt = refl
 arguments_in_order Redo = refl
 arguments_in_order At = refl
 arguments_in_order Go = refl

@@ -7,6 +7,7 @@ use Rattle.tx_mod.specs.Mods.{path_of}
 use Rattle.tx_cmd.specs.declared.TheConstants.{MOST_LINE}
 use Rattle.tx_cmd.specs.declared.command.Command.{Command}
 use Rattle.tx_cmd.specs.declared.command.Command.TheVariants.{Change, Undo, Redo, At, Go, Click, Left, Right, Typed}
+use Rattle.tx_cmd.specs.declared.command.Command.TheVariants.{UndoAt}
 use Rattle.tx_cmd.specs.declared.command.Command.TheVariants.{Backspace, Enter, Show, Page, Errors, PlaceOf, Cursor}
 use Rattle.tx_cmd.specs.declared.command.Command.TheVariants.{Attrs, Work, Tree, Save, Quit}
 use Rattle.tx_cmd.specs.declared.words.ModWord.{ModWord}
@@ -16,6 +17,7 @@ use Rattle.tx_cmd.specs.declared.words.ModWord.TheVariants.{Join as JoinWord, As
 use Rattle.tx_cmd.specs.declared.words.ModWord.TheVariants.{InsertNode as InsertNodeWord, RemoveNode as RemoveNodeWord}
 use Rattle.tx_cmd.specs.declared.words.Word.{Word}
 use Rattle.tx_cmd.specs.declared.words.Word.TheVariants.{Change as ChangeWord, Undo as UndoWord, Redo as RedoWord}
+use Rattle.tx_cmd.specs.declared.words.Word.TheVariants.{UndoAt as UndoAtWord}
 use Rattle.tx_cmd.specs.declared.words.Word.TheVariants.{At as AtWord, Go as GoWord, Click as ClickWord}
 use Rattle.tx_cmd.specs.declared.words.Word.TheVariants.{Left as LeftWord, Right as RightWord, Typed as TypedWord}
 use Rattle.tx_cmd.specs.declared.words.Word.TheVariants.{Backspace as BackspaceWord, Enter as EnterWord}
@@ -52,6 +54,7 @@ values_behind (RemoveNode p i) = a_number i ∷ []
 abbrev pub command_word : Command → Word
 command_word (Change m) = ChangeWord (mod_word m)
 command_word Undo = UndoWord
+command_word (UndoAt n) = UndoAtWord
 command_word Redo = RedoWord
 command_word (At n) = AtWord
 command_word (Go p) = GoWord
@@ -80,6 +83,7 @@ values_of (Go p) = a_path p ∷ []
 values_of (Click r c) = a_number r ∷ a_number c ∷ []
 values_of (Typed text) = a_text text ∷ []
 values_of (Page n) = a_number n ∷ []
+values_of (UndoAt n) = a_number n ∷ []
 values_of (PlaceOf r c) = a_number r ∷ a_number c ∷ []
 values_of (Attrs r) = a_number r ∷ []
 values_of (Save n) = a_name n ∷ []

@@ -10,6 +10,7 @@ use Rattle.tx_cmd.specs.declared.words.ModWord.TheVariants.{Assign, Insert, Remo
 use Rattle.tx_cmd.specs.declared.words.ModWord.TheVariants.{AssignNode, InsertNode, RemoveNode}
 use Rattle.tx_cmd.specs.declared.words.Word.{Word}
 use Rattle.tx_cmd.specs.declared.words.Word.TheVariants.{Change, Undo, Redo, At, Go, Click, Left, Right, Typed}
+use Rattle.tx_cmd.specs.declared.words.Word.TheVariants.{UndoAt}
 use Rattle.tx_cmd.specs.declared.words.Word.TheVariants.{Backspace, Enter, Show, Page, Errors, Where, Cursor, Attrs}
 use Rattle.tx_cmd.specs.declared.words.Word.TheVariants.{Work, Tree, Save, Quit}
 use Rattle.tx_cmd.specs.declared.words.ArgumentKind.{ArgumentKind}
@@ -32,6 +33,7 @@ mod_text RemoveNode = codes "remove-node"
 abbrev pub word_text : Word → List ℕ
 word_text (Change kind) = mod_text kind
 word_text Undo = codes "undo"
+word_text UndoAt = codes "undo-at"
 word_text Redo = codes "redo"
 word_text At = codes "at"
 word_text Go = codes "go"
@@ -70,6 +72,7 @@ arguments_of Go = PathArgument ∷ []
 arguments_of Click = NumberArgument ∷ NumberArgument ∷ []
 arguments_of Typed = TextArgument ∷ []
 arguments_of Page = NumberArgument ∷ []
+arguments_of UndoAt = NumberArgument ∷ []
 arguments_of Where = NumberArgument ∷ NumberArgument ∷ []
 arguments_of Attrs = NumberArgument ∷ []
 arguments_of Save = NameArgument ∷ []

@@ -15,6 +15,8 @@ pub enum Command {
     Change(Mod),
     /// Takes the last change back.
     Undo,
+    /// Takes back the change of this number alone, the last one being 1, and leaves those after it.
+    UndoAt(u32),
     /// Makes the change again that was taken back last.
     Redo,
     /// Selects the buffer of this name.

@@ -333,6 +333,7 @@ fn plain_command(word: Word, bytes: &[u8]) -> Command
 {
     match word {
         Word::Undo => Command::Undo,
+        Word::UndoAt => Command::UndoAt(last_number(bytes)),
         Word::Redo => Command::Redo,
         Word::Click => {
             let (row, column) = two_numbers(bytes);
@@ -387,6 +388,8 @@ pub(crate) fn command<L: Ledger>(
         Word::Enter | Word::Show | Word::Page | Word::Errors | Word::Where | Word::Cursor => {
             Ok(plain_command(word, bytes))
         }
-        Word::Attrs | Word::Work | Word::Tree | Word::Quit => Ok(plain_command(word, bytes)),
+        Word::UndoAt | Word::Attrs | Word::Work | Word::Tree | Word::Quit => {
+            Ok(plain_command(word, bytes))
+        }
     }
 }

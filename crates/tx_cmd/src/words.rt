@@ -48,6 +48,8 @@ pub enum Word {
     Change(ModWord),
     /// `undo`
     Undo,
+    /// `undo-at`
+    UndoAt,
     /// `redo`
     Redo,
     /// `at`
@@ -89,7 +91,7 @@ pub enum Word {
 }
 
 // All words.
-const WORDS: [Word; 28] = [
+const WORDS: [Word; 29] = [
     Word::Change(ModWord::Assign),
     Word::Change(ModWord::Insert),
     Word::Change(ModWord::Remove),
@@ -99,6 +101,7 @@ const WORDS: [Word; 28] = [
     Word::Change(ModWord::InsertNode),
     Word::Change(ModWord::RemoveNode),
     Word::Undo,
+    Word::UndoAt,
     Word::Redo,
     Word::At,
     Word::Go,
@@ -165,6 +168,7 @@ impl Word {
         match self {
             Word::Change(word) => word.text(),
             Word::Undo => b"undo",
+            Word::UndoAt => b"undo-at",
             Word::Redo => b"redo",
             Word::At => b"at",
             Word::Go => b"go",
@@ -212,7 +216,7 @@ impl Word {
             Word::At | Word::Save => &[ArgumentKind::Name],
             Word::Typed => &[ArgumentKind::Text],
             Word::Click | Word::Where => &[ArgumentKind::Number, ArgumentKind::Number],
-            Word::Page | Word::Attrs => &[ArgumentKind::Number],
+            Word::Page | Word::Attrs | Word::UndoAt => &[ArgumentKind::Number],
             Word::Undo | Word::Redo | Word::Left | Word::Right | Word::Backspace | Word::Enter => {
                 &[]
             }

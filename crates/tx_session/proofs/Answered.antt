@@ -10,9 +10,14 @@ use Rattle.tx_outside.specs.Outside.{StoreSeen}
 use Rattle.tx_tree.specs.WideTree.{WideTree}
 use Rattle.tx_tree.specs.declared.places.Place.{Place}
 use Rattle.tx_mod.specs.declared.mods.Mod.{Mod}
+use Rattle.tx_mod.specs.InTurn.{AreSoundMods}
 use Rattle.tx_doc.specs.declared.buffer.Buffer.{Buffer}
 use Rattle.tx_state.specs.States.{State}
 use Rattle.tx_state.specs.Edits.{edited}
+use Rattle.tx_state.specs.Leaving.{leaving}
+use Rattle.tx_state.specs.declared.edits.Edit.{Edit as StateEdit}
+use Rattle.tx_state.specs.declared.faults.LeaveFault.{LeaveFault}
+use Rattle.tx_state.specs.declared.faults.LeaveFault.TheVariants as leaves
 use Rattle.tx_edit.specs.declared.faults.EditFault.{EditFault}
 use Rattle.tx_edit.specs.declared.faults.EditFault.TheVariants.{NoText, AtStart, AtEnd, NotInParagraph, Memory}
 use Rattle.tx_edit.specs.declared.moves.Move.{Move}
@@ -23,18 +28,18 @@ use Rattle.tx_view_form.specs.Views.{WideView, IsView}
 use Rattle.tx_view_form.specs.Stops.{stops_of}
 use Rattle.tx_cmd.specs.declared.command.Command.{Command}
 use Rattle.tx_cmd.specs.declared.command.Command.TheVariants.{Change, Click, Left, Right, Typed, Backspace, Enter}
-use Rattle.tx_cmd.specs.declared.command.Command.TheVariants.{Show, Page, Errors, PlaceOf, Attrs, Work}
+use Rattle.tx_cmd.specs.declared.command.Command.TheVariants.{Show, Page, Errors, PlaceOf, Attrs, Work, UndoAt}
 use Rattle.tx_session.specs.declared.replies.Reply.{Reply}
-use Rattle.tx_session.specs.declared.replies.Reply.TheVariants.{Wanting}
+use Rattle.tx_session.specs.declared.replies.Reply.TheVariants.{Done, Fixed, Made, Wanting, Unsaved}
 use Rattle.tx_session.specs.Asking.{IsChange, IsKeyChange, IsKeptView, IsWanting, IsArrival, IsEdit, Makes, Prints}
-use Rattle.tx_session.specs.Asking.{IsClicked, is_plain_mark, next_after}
+use Rattle.tx_session.specs.Asking.{IsClicked, IsLeaveChange, is_plain_mark, next_after}
 use Rattle.tx_print.specs.Work.{work_reply}
 use Rattle.tx_print.specs.Writing.{IsTextWritten, IsFaultCounted}
 use Rattle.tx_session.specs.declared.session.Next.TheVariants.{Quit}
 use Rattle.tx_session.specs.Writing.{IsSaid}
-use Rattle.tx_session.specs.Causes.{key_reply}
+use Rattle.tx_session.specs.Causes.{key_reply, leave_reply}
 use Rattle.tx_session.specs.Replies.{IsReply, MayLack, fresh_after, wanting_reply}
-use Rattle.tx_session.specs.Saying.{reply_mark, reply_text}
+use Rattle.tx_session.specs.Saying.{Says, reply_mark, reply_text}
 use Rattle.tx_session.specs.States.{IsAnswer, selected_edit, key_edit, by_typing}
 use Rattle.tx_session.specs.States.{by_backspace, by_enter, view_reply, saved_by}
 use Rattle.tx_session.proofs.Turning.{same_seen}
@@ -108,6 +113,68 @@ key_changed before after mods to plain reply h = h
 key_changed before after mods to lacking reply h = h
 key_changed before after mods to unsaved reply h = absurd h
 key_changed before after mods to (told n) reply h = absurd h
+
+pub leave_replied : (n : ℕ) (before after : SeenSession) (store : StoreSeen) (mark : LineMark) (reply : List ℕ)
+    → IsLeaveChange (leaving n before.state) before mark after reply
+    → IsReply (record { session = before; store = store }) (UndoAt n) mark
+    (record { session = after; store = store }) reply
+leave_replied n before after store plain reply h =
+    done (UndoAt n) before after store reply h.0 h.1.fresh h.1.width h.1.height refl
+leave_replied n before after store lacking reply h = lacked (UndoAt n) before after store reply refl h
+leave_replied n before after store unsaved reply h = absurd h
+leave_replied n before after store (told k) reply h = absurd h
+
+-- the edit that takes an earlier one back was done or refused
+pub leave_changed : (r : Result StateEdit LeaveFault) (edit : StateEdit) (before after : SeenSession) (mark : LineMark)
+    (reply : List ℕ) → r ≡ Ok edit → AreSoundMods edit.mods
+    → IsChange (edited edit before.state) before mark after reply → IsLeaveChange r before mark after reply
+leave_changed r edit before after mark reply e sound h =
+    subst (λ o. IsLeaveChange o before mark after reply) (sym e) (by_mark mark h)
+  where
+    by_mark : (mark : LineMark) → IsChange (edited edit before.state) before mark after reply
+        → IsLeaveChange (Ok edit) before mark after reply
+    by_mark plain h = ((sound, h.0), h.1)
+    by_mark lacking h = h
+    by_mark unsaved h = absurd h
+    by_mark (told n) h = absurd h
+
+-- what was said where an earlier edit can't be taken back, or memory ran out
+abbrev pub IsLeftReply : LeaveFault → Reply → Type 0
+IsLeftReply fault reply =
+    (fault ≢ leaves.Memory → Says reply (leave_reply fault)) × (fault ≡ leaves.Memory → reply ≡ Wanting)
+
+abbrev StaysLeft : Result StateEdit LeaveFault → SeenSession → LineMark → List ℕ → Type 0
+StaysLeft r seen mark text = IsLeaveChange r seen mark seen text
+
+named_left : (fault : LeaveFault) (r : Result StateEdit LeaveFault) (seen : SeenSession) (reply : Reply)
+    → fault ≢ leaves.Memory → Says reply (leave_reply fault) → r ≡ Err fault
+    → StaysLeft r seen (reply_mark reply) (reply_text reply)
+named_left fault r seen reply named says e =
+    subst (λ o. StaysLeft o seen (reply_mark reply) (reply_text reply)) (sym e) (by_reply reply says)
+  where
+    unchanged : IsKeptView true seen seen
+    unchanged = record { width = refl; height = refl; fresh = refl }
+
+    by_reply : (reply : Reply) → Says reply (leave_reply fault)
+        → StaysLeft (Err fault) seen (reply_mark reply) (reply_text reply)
+    by_reply Done says = ((named, refl, says), unchanged)
+    by_reply (Fixed text) says = ((named, refl, says), unchanged)
+    by_reply (Made text) says = ((named, refl, says), unchanged)
+    by_reply Wanting says = (refl, refl)
+    by_reply Unsaved says = absurd says
+
+-- an earlier edit that can't be taken back changes nothing
+pub not_left_changed : (fault : LeaveFault) (r : Result StateEdit LeaveFault) (seen : SeenSession) (reply : Reply)
+    → IsLeftReply fault reply → (fault ≢ leaves.Memory → r ≡ Err fault)
+    → IsLeaveChange r seen (reply_mark reply) seen (reply_text reply)
+not_left_changed leaves.Nothing r seen reply h e =
+    named_left leaves.Nothing r seen reply (λ f. cc) (h.0 (λ f. cc)) (e (λ f. cc))
+not_left_changed (leaves.Entangled j) r seen reply h e =
+    named_left (leaves.Entangled j) r seen reply (λ f. cc) (h.0 (λ f. cc)) (e (λ f. cc))
+not_left_changed (leaves.Refused cause) r seen reply h e =
+    named_left (leaves.Refused cause) r seen reply (λ f. cc) (h.0 (λ f. cc)) (e (λ f. cc))
+not_left_changed leaves.Memory r seen reply h e =
+    subst (λ x. IsLeaveChange r seen (reply_mark x) seen (reply_text x)) (sym (h.1 refl)) (refl, refl)
 
 -- what was said where a key does nothing, or memory ran out
 abbrev pub IsIdleReply : EditFault → Reply → Type 0

@@ -6,6 +6,9 @@ use Rattle.tx_doc.specs.declared.buffer.Buffer.{Buffer}
 use Rattle.tx_doc.specs.Buffers.{number_of}
 use Rattle.tx_state.specs.States.{State}
 use Rattle.tx_state.specs.Edits.{edited, undone_state, redone_state}
+use Rattle.tx_state.specs.Leaving.{leaving}
+use Rattle.tx_state.specs.declared.faults.LeaveFault.{LeaveFault}
+use Rattle.tx_state.specs.declared.edits.Edit.{Edit}
 use Rattle.tx_edit.specs.declared.faults.EditFault.{EditFault}
 use Rattle.tx_edit.specs.declared.moves.Move.{Move}
 use Rattle.tx_edit.specs.declared.moves.Move.TheVariants.{Edit as KeyEdit, Go as MoveTo}
@@ -18,11 +21,11 @@ use Rattle.tx_print.specs.Places.{no_cell}
 use Rattle.tx_cmd.specs.declared.command.Command.{Command}
 use Rattle.tx_cmd.specs.declared.command.Command.TheVariants.{Change, Undo, Redo, At, Go, Click, Left, Right, Typed}
 use Rattle.tx_cmd.specs.declared.command.Command.TheVariants.{Backspace, Enter, Show, Page, Errors, PlaceOf, Cursor}
-use Rattle.tx_cmd.specs.declared.command.Command.TheVariants.{Attrs, Work, Tree, Save, Quit}
+use Rattle.tx_cmd.specs.declared.command.Command.TheVariants.{Attrs, Work, Tree, Save, Quit, UndoAt}
 use Rattle.tx_session.specs.Causes.{astray_reply}
 use Rattle.tx_session.specs.States.{selected_edit, key_edit, by_typing, by_backspace, by_enter, IsAnswer, IsEditAnswer}
 use Rattle.tx_session.specs.States.{IsKeyAnswer, IsStepAnswer, IsChoice, IsGoAnswer, IsClickAnswer, IsAskedAnswer}
-use Rattle.tx_session.specs.States.{IsViewAnswer}
+use Rattle.tx_session.specs.States.{IsViewAnswer, IsLeaveAnswer}
 use Rattle.tx_session.proofs.Going.{goes_once, goes_or_not, astray_once}
 
 -- buffers have one view on pages of a size
@@ -40,6 +43,11 @@ one_key : (state : State) (r : Result Move EditFault) (s t : State) (a b : List 
 one_key state (Ok (KeyEdit mods to)) s t a b h k = one_edit state (edited (key_edit mods) state) s t a b h k
 one_key state (Ok (MoveTo to)) s t a b h k = (h.0 ∙ sym k.0, h.1 ∙ sym k.1)
 one_key state (Err fault) s t a b h k = (h.1 ∙ sym k.1, h.2 ∙ sym k.2)
+
+one_leave : (state : State) (r : Result Edit LeaveFault) (s t : State) (a b : List ℕ) → IsLeaveAnswer state r s a
+    → IsLeaveAnswer state r t b → (s ≡ t) × (a ≡ b)
+one_leave state (Ok edit) s t a b h k = one_edit state (edited edit state) s t a b h.1 k.1
+one_leave state (Err fault) s t a b h k = (h.1 ∙ sym k.1, h.2 ∙ sym k.2)
 
 one_step : (state : State) (none : List ℕ) (r : Option State) (s t : State) (a b : List ℕ)
     → IsStepAnswer state none r s a → IsStepAnswer state none r t b → (s ≡ t) × (a ≡ b)
@@ -83,6 +91,7 @@ pub one_answer : (law : OneView) (width height : ℕ) (state : State) (it : Comm
 one_answer law width height state (Change m) s t a b h k =
     one_edit state (edited (selected_edit state m) state) s t a b h k
 one_answer law width height state Undo s t a b h k = one_step state (codes "no undo") (undone_state state) s t a b h k
+one_answer law width height state (UndoAt n) s t a b h k = one_leave state (leaving n state) s t a b h k
 one_answer law width height state Redo s t a b h k = one_step state (codes "no redo") (redone_state state) s t a b h k
 one_answer law width height state (At name) s t a b h k = one_choice state (number_of state.buffers name) s t a b h k
 one_answer law width height state (Go numbers) s t a b h k = one_go state numbers s t a b h k

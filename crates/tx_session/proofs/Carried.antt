@@ -16,22 +16,29 @@ use Rattle.tx_state.specs.States.{State, KeptEdit}
 use Rattle.tx_state.specs.Edits.{edited, undone_state, redone_state, back_to, on_to, cursor_after}
 use Rattle.tx_state.specs.Ready.{IsReadyUndo, IsReadyRedo, cost_both_ways, first_cost, with_edit, with_undo, with_redo}
 use Rattle.tx_state.specs.declared.edits.Edit.{Edit}
+use Rattle.tx_state.specs.Leaving.{leaving}
+use Rattle.tx_state.specs.declared.faults.LeaveFault.{LeaveFault}
+use Rattle.tx_state.specs.declared.faults.LeaveFault.TheVariants as leaves
+use Rattle.tx_state.specs.Leaving.{mods_among}
 use Rattle.tx_state.specs.declared.edits.Prepared.{Prepared}
 use Rattle.tx_edit.specs.declared.faults.EditFault.{EditFault}
 use Rattle.tx_edit.specs.declared.faults.EditFault.TheVariants.{NoText, AtStart, AtEnd, NotInParagraph, Memory}
 use Rattle.tx_edit.specs.declared.moves.Move.{Move}
 use Rattle.tx_edit.specs.declared.moves.Move.TheVariants.{Edit as KeyEdit}
-use Rattle.tx_cmd.specs.declared.command.Command.TheVariants.{Change, Undo, Redo, Typed, Backspace, Enter}
+use Rattle.tx_cmd.specs.declared.command.Command.TheVariants.{Change, Undo, Redo, Typed, Backspace, Enter, UndoAt}
 use Rattle.tx_view.specs.WholeViews.{WholeView}
 use Rattle.tx_session.specs.declared.replies.Reply.{Reply}
+use Rattle.tx_session.specs.declared.replies.Reply.TheVariants.{Done, Fixed, Made, Wanting, Unsaved}
+use Rattle.tx_session.specs.Causes.{leave_reply}
 use Rattle.tx_session.specs.Asking.{IsEditKept, IsKeyKept}
-use Rattle.tx_session.specs.Keeps.{Keeps, carried_keep, undone_mods, redone_mods, kept_after}
-use Rattle.tx_session.specs.Keeps.{edit_cost, key_cost, step_cost}
-use Rattle.tx_session.specs.Saying.{reply_mark}
+use Rattle.tx_session.specs.Keeps.{Keeps, carried_keep, undone_mods, redone_mods, leave_mods, kept_after}
+use Rattle.tx_session.specs.Keeps.{edit_cost, key_cost, step_cost, leave_cost}
+use Rattle.tx_session.specs.Effects.{leave_fails}
+use Rattle.tx_session.specs.Saying.{Says, reply_mark}
 use Rattle.tx_session.specs.Sessions.{keep_of, view_with}
 use Rattle.tx_session.specs.States.{selected_edit, key_edit, by_typing, by_backspace, by_enter}
 use Rattle.tx_session.specs.Worlds.{SeenSession, Keep, WholeSession, LineMark, plain, lacking, unsaved, told}
-use Rattle.tx_session.proofs.Answered.{IsIdleReply}
+use Rattle.tx_session.proofs.Answered.{IsIdleReply, IsLeftReply}
 
 -- modifications that make a tree in turn make it
 pub in_turn : (ms : List Mod) (t u : WideTree) → changed_in_turn ms t ≡ Ok u → changed_by_all ms t ≡ Some u
@@ -232,7 +239,51 @@ no_redo_keeps now after e h =
     h ∙ sym (ap (λ o. if is_none o then k
     else option_map_or (carried_keep state.buffers after.seen.state.buffers k) (redone_mods state.future) k) e)
 
+-- ---- an earlier edit
+
+abbrev kept_by : Result Edit LeaveFault → WholeSession → State → Keep
+kept_by r before next =
+    if leave_fails before.seen.state r then before.keep
+    else option_map_or (carried_keep before.seen.state.buffers next.buffers before.keep) (leave_mods r) before.keep
+
+-- the edit that takes an earlier one back was done or refused
+pub leave_keeps : (n : ℕ) (edit : Edit) (before after : WholeSession) (mark : LineMark)
+    → leaving n before.seen.state ≡ Ok edit
+    → IsEditKept (is_err (edited edit before.seen.state)) (edit.buffer, edit.mods) before mark after
+    → Keeps before (UndoAt n) mark after
+leave_keeps n edit before after plain e h = h ∙ sym (ap (λ r. kept_by r before after.seen.state) e)
+leave_keeps n edit before after lacking e h = h
+leave_keeps n edit before after unsaved e h = absurd h
+leave_keeps n edit before after (told k) e h = absurd h
+
+named_not_left : (n : ℕ) (fault : LeaveFault) (whole : WholeSession) (reply : Reply)
+    → Says reply (leave_reply fault) → leaving n whole.seen.state ≡ Err fault
+    → Keeps whole (UndoAt n) (reply_mark reply) whole
+named_not_left n fault whole Done says e = sym (ap (λ r. kept_by r whole whole.seen.state) e)
+named_not_left n fault whole (Fixed text) says e = sym (ap (λ r. kept_by r whole whole.seen.state) e)
+named_not_left n fault whole (Made text) says e = sym (ap (λ r. kept_by r whole whole.seen.state) e)
+named_not_left n fault whole Wanting says e = refl
+named_not_left n fault whole Unsaved says e = absurd says
+
+-- an earlier edit that can't be taken back keeps all
+pub not_left_keeps : (n : ℕ) (fault : LeaveFault) (whole : WholeSession) (reply : Reply) → IsLeftReply fault reply
+    → (fault ≢ leaves.Memory → leaving n whole.seen.state ≡ Err fault) → Keeps whole (UndoAt n) (reply_mark reply) whole
+not_left_keeps n leaves.Nothing whole reply h e =
+    named_not_left n leaves.Nothing whole reply (h.0 (λ f. cc)) (e (λ f. cc))
+not_left_keeps n (leaves.Entangled j) whole reply h e =
+    named_not_left n (leaves.Entangled j) whole reply (h.0 (λ f. cc)) (e (λ f. cc))
+not_left_keeps n (leaves.Refused cause) whole reply h e =
+    named_not_left n (leaves.Refused cause) whole reply (h.0 (λ f. cc)) (e (λ f. cc))
+not_left_keeps n leaves.Memory whole reply h e =
+    subst (λ r. Keeps whole (UndoAt n) (reply_mark r) whole) (sym (h.1 refl)) refl
+
 -- ---- steps
+
+-- finding what takes an earlier edit back, and doing it
+pub leave_counted : (n : ℕ) (edit : Edit) (state : State) (old between new reach : ℕ) → leaving n state ≡ Ok edit
+    → between ≤ old + 1609 * reach → new ≤ between + edit_cost edit.mods (edited edit state)
+    → new ≤ old + (1609 * reach + leave_cost state (leaving n state))
+leave_counted n edit state old between new reach e h k = omega (arith, h, k, ap (leave_cost state) e)
 
 both_ways : (mods : List Mod) (r : Result State ModFault) → cost_both_ways mods ≤ edit_cost mods r
 both_ways mods (Ok next) = omega arith

@@ -32,7 +32,9 @@ use Rattle.tx_doc.proofs.WithoutCalls.{modern_formed, modern_within}
 use Rattle.tx_state.specs.States.{State, KeptEdit, present}
 use Rattle.tx_state.specs.Edits.{edited_to, with_outcome, back_to, on_to, cursor_after}
 use Rattle.tx_state.specs.declared.TheConstants.{MOST_UNDO}
+use Rattle.tx_state.specs.Leaving.{leaving}
 use Rattle.tx_state.specs.declared.edits.Edit.{Edit}
+use Rattle.tx_state.specs.declared.faults.LeaveFault.{LeaveFault}
 use Rattle.tx_edit.specs.declared.faults.EditFault.{EditFault}
 use Rattle.tx_edit.specs.declared.moves.Move.{Move}
 use Rattle.tx_edit.specs.declared.moves.Move.TheVariants.{Edit as KeyEdit, Go as MoveTo}
@@ -46,7 +48,7 @@ use Rattle.tx_print.specs.Places.{no_cell}
 use Rattle.tx_cmd.specs.declared.command.Command.{Command}
 use Rattle.tx_cmd.specs.declared.command.Command.TheVariants.{Change, Undo, Redo, At, Go, Click, Left, Right, Typed}
 use Rattle.tx_cmd.specs.declared.command.Command.TheVariants.{Backspace, Enter, Show, Page, Errors, PlaceOf, Cursor}
-use Rattle.tx_cmd.specs.declared.command.Command.TheVariants.{Attrs, Work, Tree, Save, Quit}
+use Rattle.tx_cmd.specs.declared.command.Command.TheVariants.{Attrs, Work, Tree, Save, Quit, UndoAt}
 use Rattle.tx_cmd.specs.Commands.{IsCommand}
 use Rattle.tx_session.specs.Forms.{Saving, no_form, file_long, writes, fitting, saving, has_text_in, form_text}
 use Rattle.tx_print.specs.Lines.{line}
@@ -60,8 +62,8 @@ use Rattle.tx_session.specs.Runs.{seen_start, start_with}
 use Rattle.tx_session.specs.Savings.{IsSavedAlone, IsNotSaved, StandsAmong}
 use Rattle.tx_session.specs.Scripts.{Answered, command_line}
 use Rattle.tx_session.specs.States.{IsAnswer, IsEditAnswer, IsKeyAnswer, IsStepAnswer, IsChoice, IsClickAnswer}
-use Rattle.tx_session.specs.States.{IsAskedAnswer, IsViewAnswer, selected_edit, selected_tree, key_edit, by_typing}
-use Rattle.tx_session.specs.States.{by_backspace, by_enter, whole_place, save_reply, file_saved}
+use Rattle.tx_session.specs.States.{IsAskedAnswer, IsLeaveAnswer, IsViewAnswer, selected_edit, selected_tree, key_edit}
+use Rattle.tx_session.specs.States.{by_typing, by_backspace, by_enter, whole_place, save_reply, file_saved}
 use Rattle.tx_session.specs.Worlds.{SeenWorld, World, IsAsBefore, seen_of_world, StoresFile, LineMark, plain, lacking}
 use Rattle.tx_session.specs.Worlds.{unsaved, told}
 use Rattle.tx_session.proofs.Determined.{one_reading, was_read}
@@ -150,6 +152,12 @@ key_formed (Ok (KeyEdit mods to)) s next reply h f a =
 key_formed (Ok (MoveTo to)) s next reply h f a = cursor_formed s next to a.0 f
 key_formed (Err fault) s next reply h f a = subst IsFormed (sym a.1) f
 
+leave_formed : (made : Result Edit LeaveFault) (s next : State) (reply : List ℕ) → IsFormed s
+    → IsLeaveAnswer s made next reply → IsFormed next
+leave_formed (Ok edit) s next reply f a =
+    edit_formed edit s next reply (changed_in_turn edit.mods (tree_of s.buffers edit.buffer)) a.0 f refl a.1
+leave_formed (Err fault) s next reply f a = subst IsFormed (sym a.1) f
+
 choice_formed : (s next : State) (o : Option ℕ) (reply : List ℕ) → IsFormed s → IsChoice s o next reply → IsFormed next
 choice_formed s next (Some k) reply f a =
     subst IsFormed (sym a.0) (record { now = f.now; past = f.past; future = f.future })
@@ -199,6 +207,7 @@ answer_formed text (Change m) width height s next reply h f a =
     edit_formed (selected_edit s m) s next reply (changed_in_turn (m ∷ []) (tree_of s.buffers s.selected))
     (sound_change text m h, tt) f refl a
 answer_formed text Undo width height s next reply h f a = undo_formed s next (codes "no undo") reply s.past f f.past a
+answer_formed text (UndoAt n) width height s next reply h f a = leave_formed (leaving n s) s next reply f a
 answer_formed text Redo width height s next reply h f a =
     redo_formed s next (codes "no redo") reply s.future f f.future a
 answer_formed text (At name) width height s next reply h f a =

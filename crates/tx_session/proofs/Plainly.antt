@@ -20,6 +20,10 @@ use Rattle.tx_doc.specs.Forms.{form_of}
 use Rattle.tx_doc.specs.Buffers.{number_of}
 use Rattle.tx_state.specs.States.{State}
 use Rattle.tx_state.specs.Edits.{edited, undone_state, redone_state}
+use Rattle.tx_state.specs.Leaving.{leaving}
+use Rattle.tx_state.specs.declared.faults.LeaveFault.{LeaveFault}
+use Rattle.tx_state.specs.declared.faults.LeaveFault.TheVariants as leaves
+use Rattle.tx_state.specs.declared.edits.Edit.{Edit}
 use Rattle.tx_edit.specs.declared.faults.EditFault.{EditFault}
 use Rattle.tx_edit.specs.declared.faults.EditFault.TheVariants as keys
 use Rattle.tx_edit.specs.declared.faults.EditFault.TheVariants.{NoText, AtStart, AtEnd, NotInParagraph}
@@ -40,11 +44,11 @@ use Rattle.tx_print.specs.Runs.{CellRun, run_text, runs_or, runs_from, looks_on}
 use Rattle.tx_cmd.specs.declared.command.Command.{Command}
 use Rattle.tx_cmd.specs.declared.command.Command.TheVariants.{Change, Undo, Redo, At, Go, Click, Left, Right, Typed}
 use Rattle.tx_cmd.specs.declared.command.Command.TheVariants.{Backspace, Enter, Show, Page, Errors, PlaceOf, Cursor}
-use Rattle.tx_cmd.specs.declared.command.Command.TheVariants.{Attrs, Work, Tree, Save, Quit}
+use Rattle.tx_cmd.specs.declared.command.Command.TheVariants.{Attrs, Work, Tree, Save, Quit, UndoAt}
 use Rattle.tx_cmd.specs.declared.command.CmdFault.{CmdFault}
 use Rattle.tx_cmd.specs.declared.command.CmdFault.TheVariants.{Long, Unknown, Args, Path, Tree as BadTree, Memory}
 use Rattle.tx_session.specs.declared.session.Next.{Next}
-use Rattle.tx_session.specs.Causes.{cause_reply, astray_reply, key_reply}
+use Rattle.tx_session.specs.Causes.{cause_reply, astray_reply, key_reply, leave_reply}
 use Rattle.tx_session.specs.Differences.{IsPlainReply}
 use Rattle.tx_session.specs.Forms.{Saving, no_form, file_long, writes, saving}
 use Rattle.tx_print.specs.Lines.{line}
@@ -52,7 +56,7 @@ use Rattle.tx_print.specs.Work.{work_reply}
 use Rattle.tx_session.specs.Replies.{wanting_reply, unsaved_reply, refusal, IsDone, IsReply}
 use Rattle.tx_session.specs.States.{selected_edit, selected_tree, key_edit, by_typing, by_backspace, by_enter}
 use Rattle.tx_session.specs.States.{view_reply, IsAnswer, IsEditAnswer, IsKeyAnswer, IsStepAnswer, IsChoice, IsGoAnswer}
-use Rattle.tx_session.specs.States.{IsClickAnswer, IsAskedAnswer, IsViewAnswer, done_reply, save_reply}
+use Rattle.tx_session.specs.States.{IsLeaveAnswer, IsClickAnswer, IsAskedAnswer, IsViewAnswer, done_reply, save_reply}
 use Rattle.tx_session.specs.Worlds.{SeenWorld, LineMark, plain, lacking, unsaved, told}
 use Rattle.tx_session.specs.Writing.{IsSaid}
 
@@ -129,6 +133,17 @@ plain_key : (state : State) (r : Result Move EditFault) (next : State) (reply : 
 plain_key state (Ok (KeyEdit mods to)) next reply h = plain_edit state (edited (key_edit mods) state) next reply h
 plain_key state (Ok (MoveTo to)) next reply h = kept reply done_reply h.1 plain_ok
 plain_key state (Err fault) next reply h = kept reply (key_reply fault) h.2 (plain_key_cause fault)
+
+plain_leave_cause : (fault : LeaveFault) → IsPlainReply (leave_reply fault)
+plain_leave_cause leaves.Nothing = begun (leave_reply leaves.Nothing) refl
+plain_leave_cause (leaves.Entangled j) = begun (leave_reply (leaves.Entangled j)) refl
+plain_leave_cause (leaves.Refused cause) = plain_cause cause
+plain_leave_cause leaves.Memory = begun (leave_reply leaves.Memory) refl
+
+plain_leave : (state : State) (r : Result Edit LeaveFault) (next : State) (reply : List ℕ)
+    → IsLeaveAnswer state r next reply → IsPlainReply reply
+plain_leave state (Ok edit) next reply h = plain_edit state (edited edit state) next reply h.1
+plain_leave state (Err fault) next reply h = kept reply (leave_reply fault) h.2 (plain_leave_cause fault)
 
 plain_choice : (state : State) (r : Option ℕ) (next : State) (reply : List ℕ) → IsChoice state r next reply
     → IsPlainReply reply
@@ -227,6 +242,7 @@ plain_answer width height state (Change m) next reply h =
     plain_edit state (edited (selected_edit state m) state) next reply h
 plain_answer width height state Undo next reply h =
     plain_step state (codes "no undo") (undone_state state) next reply (begun (line (codes "no undo")) refl) h
+plain_answer width height state (UndoAt n) next reply h = plain_leave state (leaving n state) next reply h
 plain_answer width height state Redo next reply h =
     plain_step state (codes "no redo") (redone_state state) next reply (begun (line (codes "no redo")) refl) h
 plain_answer width height state (At name) next reply h =

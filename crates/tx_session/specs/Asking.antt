@@ -7,6 +7,8 @@ use Rattle.tx_tree.specs.WideTree.{WideTree}
 use Rattle.tx_mod.specs.declared.faults.ModFault.{ModFault}
 use Rattle.tx_mod.specs.declared.mods.Mod.{Mod}
 use Rattle.tx_state.specs.States.{State}
+use Rattle.tx_state.specs.declared.edits.Edit.{Edit as StateEdit}
+use Rattle.tx_state.specs.declared.faults.LeaveFault.{LeaveFault}
 use Rattle.tx_edit.specs.declared.faults.EditFault.{EditFault}
 use Rattle.tx_edit.specs.declared.faults.EditFault.TheVariants.{Memory}
 use Rattle.tx_edit.specs.declared.moves.Move.{Move}
@@ -19,8 +21,8 @@ use Rattle.tx_cmd.specs.declared.command.Command.TheVariants.{Show, Page, Errors
 use Rattle.tx_outside.specs.declared.faults.WriteFault.{WriteFault}
 use Rattle.tx_session.specs.declared.session.Next.{Next}
 use Rattle.tx_session.specs.declared.session.Next.TheVariants.{Go}
-use Rattle.tx_session.specs.States.{IsEditAnswer, IsKeyAnswer, IsClickAnswer}
-use Rattle.tx_session.specs.Effects.{key_fails}
+use Rattle.tx_session.specs.States.{IsEditAnswer, IsKeyAnswer, IsLeaveAnswer, IsClickAnswer}
+use Rattle.tx_session.specs.Effects.{key_fails, leave_fails}
 use Rattle.tx_session.specs.Keeps.{carried_keep, key_mods}
 use Rattle.tx_session.specs.Replies.{wanting_reply}
 use Rattle.tx_session.specs.Worlds.{SeenSession, WholeSession, LineMark, plain, lacking, unsaved, told}
@@ -50,6 +52,14 @@ IsKeyChange made before plain after reply =
 IsKeyChange made before lacking after reply = IsWanting before after reply
 IsKeyChange made before unsaved after reply = ⊥
 IsKeyChange made before (told n) after reply = ⊥
+
+-- so of an earlier edit that is taken back
+abbrev pub IsLeaveChange : Result StateEdit LeaveFault → SeenSession → LineMark → SeenSession → List ℕ → Type 0
+IsLeaveChange made before plain after reply =
+    IsLeaveAnswer before.state made after.state reply × IsKeptView (leave_fails before.state made) before after
+IsLeaveChange made before lacking after reply = IsWanting before after reply
+IsLeaveChange made before unsaved after reply = ⊥
+IsLeaveChange made before (told n) after reply = ⊥
 
 -- this is what a key makes, unless memory ran out
 abbrev pub Makes : Result Move EditFault → Result Move EditFault → Type 0

@@ -5,6 +5,8 @@ use Rattle.tx_tree.specs.declared.faults.PlaceFault.TheVariants as places
 use Rattle.tx_mod.specs.declared.faults.ModFault.{ModFault}
 use Rattle.tx_mod.specs.declared.faults.ModFault.TheVariants.{NoPath, NotString, NotNode, BadPlace, Differ}
 use Rattle.tx_mod.specs.declared.faults.ModFault.TheVariants.{CutsSymbol, TooLong, TooWide, TooDeep, TooBig}
+use Rattle.tx_state.specs.declared.faults.LeaveFault.{LeaveFault}
+use Rattle.tx_state.specs.declared.faults.LeaveFault.TheVariants as leaves
 use Rattle.tx_edit.specs.declared.faults.EditFault.{EditFault}
 use Rattle.tx_edit.specs.declared.faults.EditFault.TheVariants.{NoText, AtStart, AtEnd, NotInParagraph, Memory}
 use Rattle.tx_print.specs.Lines.{line}
@@ -37,3 +39,10 @@ key_reply AtStart = line (codes "no start")
 key_reply AtEnd = line (codes "no end")
 key_reply NotInParagraph = line (codes "no paragraph")
 key_reply Memory = []
+
+-- why an earlier edit isn't taken back, want of memory aside
+abbrev pub leave_reply : LeaveFault → List ℕ
+leave_reply leaves.Nothing = line (codes "no undo")
+leave_reply (leaves.Entangled j) = numbered_line (codes "no entangled ") j
+leave_reply (leaves.Refused cause) = cause_reply cause
+leave_reply leaves.Memory = []

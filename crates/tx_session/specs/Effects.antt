@@ -2,11 +2,14 @@
 use Rattle.std.specs.Prelude.{is_err, is_none, Bool, true, false, Result, Ok, Err}
 use Rattle.tx_cmd.specs.declared.command.Command.{Command}
 use Rattle.tx_cmd.specs.declared.command.Command.TheVariants.{Change, Undo, Redo, Click, Left, Right, Typed, Backspace}
-use Rattle.tx_cmd.specs.declared.command.Command.TheVariants.{Enter, Show, Page, Errors, PlaceOf, Attrs, Work}
+use Rattle.tx_cmd.specs.declared.command.Command.TheVariants.{Enter, Show, Page, Errors, PlaceOf, Attrs, Work, UndoAt}
 use Rattle.tx_edit.specs.declared.faults.EditFault.{EditFault}
 use Rattle.tx_edit.specs.declared.moves.Move.{Move}
 use Rattle.tx_edit.specs.declared.moves.Move.TheVariants.{Edit, Go as MoveTo}
 use Rattle.tx_state.specs.States.{State}
+use Rattle.tx_state.specs.Leaving.{leaving}
+use Rattle.tx_state.specs.declared.edits.Edit.{Edit as StateEdit}
+use Rattle.tx_state.specs.declared.faults.LeaveFault.{LeaveFault}
 use Rattle.tx_state.specs.Edits.{edited, undone_state, redone_state}
 use Rattle.tx_session.specs.States.{selected_edit, key_edit, by_typing, by_backspace, by_enter}
 
@@ -29,6 +32,11 @@ key_fails state (Ok (Edit mods to)) = is_err (edited (key_edit mods) state)
 key_fails state (Ok (MoveTo to)) = true
 key_fails state (Err fault) = true
 
+-- an earlier edit can't be taken back, or the edit that takes it back is refused
+abbrev pub leave_fails : State → Result StateEdit LeaveFault → Bool
+leave_fails state (Ok edit) = is_err (edited edit state)
+leave_fails state (Err fault) = true
+
 -- the command is refused, or changes no buffer
 abbrev pub keeps_buffers : State → Command → Bool
 keeps_buffers state (Change m) = is_err (edited (selected_edit state m) state)
@@ -36,5 +44,6 @@ keeps_buffers state (Typed text) = key_fails state (by_typing state text)
 keeps_buffers state Backspace = key_fails state (by_backspace state)
 keeps_buffers state Enter = key_fails state (by_enter state)
 keeps_buffers state Undo = is_none (undone_state state)
+keeps_buffers state (UndoAt n) = leave_fails state (leaving n state)
 keeps_buffers state Redo = is_none (redone_state state)
 keeps_buffers state _ = true

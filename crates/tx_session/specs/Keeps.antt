@@ -1,6 +1,6 @@
 -- What commands make of what a session keeps of its view, and the steps that they take.
 use Rattle.std.specs.Prelude.{◌≡◌, ◌≤◌, ◌⊎◌, ◌+◌, ◌*◌, ℕ, Bool, true, false, if◌then◌else◌, List, [], ◌∷◌}
-use Rattle.std.specs.Prelude.{Option, Some, None, Result, Ok, Err}
+use Rattle.std.specs.Prelude.{Option, Some, None, Result, Ok, Err, take}
 use Rattle.std.specs.Option.{option_map_or}
 use Rattle.tx_mod.specs.InTurn.{cost_of, inverses_of}
 use Rattle.tx_mod.specs.declared.faults.ModFault.{ModFault}
@@ -9,12 +9,15 @@ use Rattle.tx_doc.specs.Buffers.{tree_of}
 use Rattle.tx_doc.specs.declared.buffer.Buffer.{Buffer}
 use Rattle.tx_units.specs.Units.{made}
 use Rattle.tx_state.specs.States.{State, KeptEdit}
+use Rattle.tx_state.specs.Leaving.{leaving, mods_among}
+use Rattle.tx_state.specs.declared.edits.Edit.{Edit as StateEdit}
+use Rattle.tx_state.specs.declared.faults.LeaveFault.{LeaveFault}
 use Rattle.tx_state.specs.Edits.{edited, undone_state, redone_state}
 use Rattle.tx_edit.specs.declared.faults.EditFault.{EditFault}
 use Rattle.tx_edit.specs.declared.moves.Move.{Move}
 use Rattle.tx_edit.specs.declared.moves.Move.TheVariants.{Edit, Go as MoveTo}
 use Rattle.tx_cmd.specs.declared.command.Command.{Command}
-use Rattle.tx_cmd.specs.declared.command.Command.TheVariants.{Change, Undo, Redo, Typed, Backspace, Enter}
+use Rattle.tx_cmd.specs.declared.command.Command.TheVariants.{Change, Undo, Redo, Typed, Backspace, Enter, UndoAt}
 use Rattle.tx_view.specs.Names.{Fresh, Bound, Carry}
 use Rattle.tx_view.specs.Stores.{IsPartlyFresh}
 use Rattle.tx_session.specs.Effects.{asks_view, keeps_buffers}
@@ -48,6 +51,11 @@ abbrev pub redone_mods : List KeptEdit → Option (ℕ × List Mod)
 redone_mods [] = None
 redone_mods (kept ∷ others) = Some (kept.buffer, kept.mods)
 
+-- what takes an earlier edit back
+abbrev pub leave_mods : Result StateEdit LeaveFault → Option (ℕ × List Mod)
+leave_mods (Ok edit) = Some (edit.buffer, edit.mods)
+leave_mods (Err fault) = None
+
 -- the buffer that a command changes, and by which modifications
 abbrev pub command_mods : State → Command → Option (ℕ × List Mod)
 command_mods state (Change m) = Some (state.selected, m ∷ [])
@@ -55,6 +63,7 @@ command_mods state (Typed text) = key_mods (by_typing state text)
 command_mods state Backspace = key_mods (by_backspace state)
 command_mods state Enter = key_mods (by_enter state)
 command_mods state Undo = undone_mods state.past
+command_mods state (UndoAt n) = leave_mods (leaving n state)
 command_mods state Redo = redone_mods state.future
 command_mods state command = None
 
@@ -101,6 +110,11 @@ key_cost state (Ok (Edit mods to)) = edit_cost mods (edited (key_edit mods) stat
 key_cost state (Ok (MoveTo to)) = 0
 key_cost state (Err fault) = 0
 
+-- the edit that takes an earlier one back
+abbrev pub leave_cost : State → Result StateEdit LeaveFault → ℕ
+leave_cost state (Ok edit) = edit_cost edit.mods (edited edit state)
+leave_cost state (Err fault) = 0
+
 -- taking an edit back, or making it again
 abbrev pub step_cost : List KeptEdit → Option (ℕ × List Mod) → Option State → ℕ
 step_cost [] carried next = 0
@@ -114,6 +128,7 @@ most_steps state (Typed text) = key_cost state (by_typing state text)
 most_steps state Backspace = key_cost state (by_backspace state)
 most_steps state Enter = key_cost state (by_enter state)
 most_steps state Undo = step_cost state.past (undone_mods state.past) (undone_state state)
+most_steps state (UndoAt n) = 1609 * mods_among (take n state.past) + leave_cost state (leaving n state)
 most_steps state Redo = step_cost state.future (redone_mods state.future) (redone_state state)
 most_steps state _ = 0
 

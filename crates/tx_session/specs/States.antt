@@ -7,12 +7,16 @@ use Rattle.tx_tree.specs.declared.faults.PlaceFault.{PlaceFault}
 use Rattle.tx_tree.specs.declared.places.Place.{Place}
 use Rattle.tx_mod.specs.declared.faults.ModFault.{ModFault}
 use Rattle.tx_mod.specs.declared.mods.Mod.{Mod}
+use Rattle.tx_mod.specs.InTurn.{AreSoundMods}
 use Rattle.tx_scm.specs.Canonical.{scheme_text}
 use Rattle.tx_doc.specs.Forms.{form_of}
 use Rattle.tx_doc.specs.Buffers.{document_of, tree_of, number_of}
 use Rattle.tx_state.specs.States.{State}
 use Rattle.tx_state.specs.Edits.{edited, undone_state, redone_state, CursorGoes, IsAstray}
+use Rattle.tx_state.specs.Leaving.{leaving}
 use Rattle.tx_state.specs.declared.edits.Edit.{Edit}
+use Rattle.tx_state.specs.declared.faults.LeaveFault.{LeaveFault}
+use Rattle.tx_state.specs.declared.faults.LeaveFault.TheVariants.{Memory as LeaveMemory}
 use Rattle.tx_edit.specs.declared.faults.EditFault.{EditFault}
 use Rattle.tx_edit.specs.declared.faults.EditFault.TheVariants.{Memory}
 use Rattle.tx_edit.specs.declared.moves.Move.{Move}
@@ -30,9 +34,9 @@ use Rattle.tx_print.specs.Runs.{attrs_reply}
 use Rattle.tx_cmd.specs.declared.command.Command.{Command}
 use Rattle.tx_cmd.specs.declared.command.Command.TheVariants.{Change, Undo, Redo, At, Go, Click, Left, Right, Typed}
 use Rattle.tx_cmd.specs.declared.command.Command.TheVariants.{Backspace, Enter, Show, Page, Errors, PlaceOf, Cursor}
-use Rattle.tx_cmd.specs.declared.command.Command.TheVariants.{Attrs, Tree, Save, Work, Quit}
+use Rattle.tx_cmd.specs.declared.command.Command.TheVariants.{Attrs, Tree, Save, Work, Quit, UndoAt}
 use Rattle.tx_print.specs.Lines.{line}
-use Rattle.tx_session.specs.Causes.{numbered_line, cause_reply, astray_reply, key_reply}
+use Rattle.tx_session.specs.Causes.{numbered_line, cause_reply, astray_reply, key_reply, leave_reply}
 use Rattle.tx_session.specs.Forms.{Saving, no_form, file_long, writes, saving}
 
 -- the reply to what is no command
@@ -75,6 +79,13 @@ abbrev pub IsKeyAnswer : State → Result Move EditFault → State → List ℕ 
 IsKeyAnswer state (Ok (KeyEdit mods to)) next reply = IsEditAnswer state (edited (key_edit mods) state) next reply
 IsKeyAnswer state (Ok (MoveTo to)) next reply = (next ≡ record state { cursor = to }) × (reply ≡ done_reply)
 IsKeyAnswer state (Err fault) next reply = (fault ≢ Memory) × (next ≡ state) × (reply ≡ key_reply fault)
+
+-- an earlier edit was taken back by an edit, the parts of which are well formed, and which was done or refused; or why
+-- there is no such edit
+abbrev pub IsLeaveAnswer : State → Result Edit LeaveFault → State → List ℕ → Type 0
+IsLeaveAnswer state (Ok edit) next reply =
+    AreSoundMods edit.mods × IsEditAnswer state (edited edit state) next reply
+IsLeaveAnswer state (Err fault) next reply = (fault ≢ LeaveMemory) × (next ≡ state) × (reply ≡ leave_reply fault)
 
 -- an edit was taken back or made again, or there was none
 abbrev pub IsStepAnswer : State → (none : List ℕ) → Option State → State → List ℕ → Type 0
@@ -142,6 +153,7 @@ abbrev pub IsAnswer : ℕ → ℕ → State → Command → State → List ℕ �
 IsAnswer width height state (Change m) next reply =
     IsEditAnswer state (edited (selected_edit state m) state) next reply
 IsAnswer width height state Undo next reply = IsStepAnswer state (codes "no undo") (undone_state state) next reply
+IsAnswer width height state (UndoAt n) next reply = IsLeaveAnswer state (leaving n state) next reply
 IsAnswer width height state Redo next reply = IsStepAnswer state (codes "no redo") (redone_state state) next reply
 IsAnswer width height state (At name) next reply = IsChoice state (number_of state.buffers name) next reply
 IsAnswer width height state (Go numbers) next reply = IsGoAnswer state numbers next reply

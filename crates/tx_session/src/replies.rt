@@ -4,7 +4,7 @@ ghost use Rattle.tx_cmd.specs.declared.command.Command.{Command};
 ghost use Rattle.tx_outside.specs.Counts.{Rose};
 ghost use Rattle.tx_outside.specs.Outside.{SinkGoesOn};
 ghost use Rattle.tx_session.specs.Asking.{is_plain_mark};
-ghost use Rattle.tx_session.specs.Causes.{cause_reply, astray_reply, key_reply, numbered_line};
+ghost use Rattle.tx_session.specs.Causes.{cause_reply, astray_reply, key_reply, leave_reply, numbered_line};
 ghost use Rattle.tx_session.specs.FaultTexts.{read_fault_text};
 ghost use Rattle.tx_print.specs.Lines.{line};
 ghost use Rattle.tx_print.specs.Work.{work_reply};
@@ -22,6 +22,7 @@ use tx_cmd::CmdFault;
 use tx_edit::EditFault;
 use tx_mod::ModFault;
 use tx_outside::{Sink, WriteFault, write_all};
+use tx_state::LeaveFault;
 use tx_tree::{PlaceFault, ReadFault};
 
 /// The reply where memory ran out.
@@ -116,6 +117,19 @@ pub(crate) fn refused(alloc: Global, cause: ModFault) -> Reply
         ModFault::TooWide(n) => numbered(alloc, "no too-wide ", n),
         ModFault::TooDeep(n) => numbered(alloc, "no too-deep ", n),
         ModFault::TooBig(n) => numbered(alloc, "no too-big ", n),
+    }
+}
+
+/// The reply where an earlier edit can't be taken back.
+pub(crate) fn not_left(alloc: Global, fault: LeaveFault) -> Reply
+    ensures named { fault ≢ LeaveFault.Memory → Says result (leave_reply fault) }
+    ensures wanting { fault ≡ LeaveFault.Memory → result ≡ Reply.Wanting }
+{
+    match fault {
+        LeaveFault::Nothing => Reply::Fixed(b"no undo\n"),
+        LeaveFault::Entangled(j) => numbered(alloc, "no entangled ", u64::from(j)),
+        LeaveFault::Refused(cause) => refused(alloc, cause),
+        LeaveFault::Memory => Reply::Wanting,
     }
 }
 

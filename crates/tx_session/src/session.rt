@@ -30,7 +30,7 @@ ghost use Rattle.tx_cmd.specs.declared.command.Command.{Command};
 ghost use Rattle.tx_session.specs.Writing.{IsSaid};
 
 use crate::printing::print_view;
-use crate::replies::{NO_MEMORY, Reply, astray, idle, no_cell, refused, say};
+use crate::replies::{NO_MEMORY, Reply, astray, idle, no_cell, not_left, refused, say};
 use crate::saving::save;
 use std::alloc::Global;
 use std::marker::Model;
@@ -387,6 +387,20 @@ impl Session {
         }
     }
 
+    // Takes an earlier edit back alone.
+    fn undo_at<L: Ledger>(&mut self, alloc: Global, n: u32, steps: &mut Steps<L>) -> Reply
+        ensures replied { (store : StoreSeen) → IsReply (record { session = self.old.seen; store = store })
+            (Command.UndoAt n) (reply_mark result) (record { session = self.new.seen; store = store })
+            (reply_text result) }
+        ensures keeps { Keeps self.old (Command.UndoAt n) (reply_mark result) self.new }
+        ensures takes { Takes self.old (Command.UndoAt n) (reply_mark result) steps.old steps.new }
+    {
+        match self.state.prepare_leave(alloc, n, steps) {
+            Ok(edit) => self.edit(alloc, edit, steps),
+            Err(fault) => not_left(alloc, fault),
+        }
+    }
+
     // Makes the edit again that was taken back last.
     fn redo<L: Ledger>(&mut self, alloc: Global, steps: &mut Steps<L>) -> Reply
         ensures replied { (store : StoreSeen) → IsReply (record { session = self.old.seen; store = store })
@@ -589,6 +603,7 @@ impl Session {
             Command::Tree => say(out, self.tree(alloc).text()),
             Command::Change(m) => say(out, self.change(alloc, m, steps).text()),
             Command::Undo => say(out, self.undo(alloc, steps).text()),
+            Command::UndoAt(n) => say(out, self.undo_at(alloc, *n, steps).text()),
             Command::Redo => say(out, self.redo(alloc, steps).text()),
             Command::At(name) => say(out, self.choose(name).text()),
             Command::Go(numbers) => say(out, self.go(alloc, numbers).text()),

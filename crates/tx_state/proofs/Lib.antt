@@ -6,3 +6,5 @@ pub mod Keeping
 pub mod Restoring
 pub mod MadeReady
 pub mod Costs
+pub mod GoingBack
+pub mod TakenBack

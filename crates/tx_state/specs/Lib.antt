@@ -7,3 +7,5 @@ pub mod Entries
 pub mod Kept
 pub mod Walks
 pub mod Changing
+pub mod Leaving
+pub mod Backward

@@ -5,17 +5,19 @@
 //! first and then put in place (`specs/Ready.antt`). The code keeps the modifications that lead from moment to moment.
 #![tactic(auto)]
 
+mod backward;
 mod changing;
 mod cursors;
 mod edits;
 mod faults;
 mod laws;
+mod leaving;
 mod limits;
 mod preparing;
 mod state;
 
 pub use edits::{Edit, Entry, Prepared};
-pub use faults::{GoFault, NoBuffer, UndoFault};
+pub use faults::{GoFault, LeaveFault, NoBuffer, UndoFault};
 pub use laws::undo_law;
 pub use limits::limit_law;
 pub use state::EditorState;

@@ -1,24 +1,28 @@
 // The buffers, the cursor and the history.
-ghost use Rattle.std.specs.Prelude.{◌≡◌, ◌≤◌, ◌<◌, ◌+◌, ◌∷◌, ◌==◌, List, length, if◌then◌else◌};
+ghost use Rattle.std.specs.Prelude.{◌≡◌, ◌≢◌, ◌≤◌, ◌<◌, ◌+◌, ◌*◌, ◌∷◌, ◌==◌, List, length, take, if◌then◌else◌};
 ghost use Rattle.std.specs.Prelude.{IfOk, IfErr, OnOk, OnErr, Some, None, Ok, Err};
 ghost use Rattle.std.specs.Option.{option_map_or};
 ghost use Rattle.tx_tree.specs.Places.{IsPlace};
-ghost use Rattle.tx_mod.specs.InTurn.{inverses_of};
+ghost use Rattle.tx_mod.specs.InTurn.{inverses_of, AreSoundMods};
 ghost use Rattle.tx_mod.specs.declared.faults.ApplyFault.{ApplyFault};
 ghost use Rattle.tx_mod.specs.declared.faults.ModFault.{ModFault as Cause};
 ghost use Rattle.tx_tree.specs.declared.faults.PlaceFault.{PlaceFault as PlaceCause};
 ghost use Rattle.tx_doc.specs.Buffers.{document_of, tree_of, with_tree, number_of, NamesDiffer, AreFormed};
 ghost use Rattle.tx_state.specs.declared.faults.GoFault.{GoFault};
+ghost use Rattle.tx_state.specs.declared.faults.LeaveFault.{LeaveFault};
 ghost use Rattle.tx_state.specs.declared.faults.UndoFault.{UndoFault};
-ghost use Rattle.tx_state.specs.States.{KeptEdit, opening_state};
+ghost use Rattle.tx_state.specs.States.{KeptEdit, State as WholeState, opening_state};
 ghost use Rattle.tx_state.specs.Edits.{edited, undone_state, redone_state, cursor_after, GivesPlace, CursorGoes};
 ghost use Rattle.tx_state.specs.Edits.{IsAstray, Selects};
+ghost use Rattle.tx_state.specs.Leaving.{leaving, tree_without, mods_among};
 ghost use Rattle.tx_state.specs.Ready.{IsReadyChange, IsReadyUndo, IsReadyRedo, with_edit, cost_both_ways, first_cost};
 
+use crate::backward::all_sound;
 use crate::changing::change_in_turn;
 use crate::cursors::first_cursor;
 use crate::edits::{Edit, Entry, Prepared};
-use crate::faults::{GoFault, NoBuffer, UndoFault};
+use crate::faults::{GoFault, LeaveFault, NoBuffer, UndoFault};
+use crate::leaving::left_of;
 use crate::preparing::{chosen, step_along, tree_at};
 use crate::{MOST_BUFFERS, MOST_UNDO};
 use std::alloc::Global;
@@ -26,6 +30,7 @@ use std::marker::Model;
 use std::mem;
 use std::sync::ledger::Ledger;
 use tx_base::{Memory, Steps};
+use tx_commute::Left;
 use tx_doc::{Buffer, formed_law, number_of};
 use tx_history::History;
 use tx_mod::{ApplyFault, ModList};
@@ -314,6 +319,46 @@ impl EditorState {
             cursor: at,
         });
         former
+    }
+
+    /// The edit that takes the n-th last edit back, the last one being 1, and leaves what later edits did. It is for
+    /// `prepare_edit`, and the buffer's tree is then the one that the later edits, as they are without that edit, make
+    /// of the tree before it. `Nothing` comes exactly where there is no such edit, `Entangled` where the first later
+    /// edit that fails has a modification that doesn't commute with what is left of that edit, and `Refused` where it
+    /// has one that passes a limit without that edit. The state stays as it is. It takes at most 1,609 steps for each
+    /// modification of the last n edits.
+    pub fn prepare_leave<L: Ledger>(
+        &self,
+        alloc: Global,
+        n: u32,
+        steps: &mut Steps<L>,
+    ) -> Result<Edit, LeaveFault>
+        ensures edit { IfOk result (λ edit. leaving n self.now ≡ Ok edit) }
+        ensures buffer { IfOk result (λ edit. edit.buffer < length self.now.buffers) }
+        ensures cursor { IfOk result (λ edit. edit.cursor ≡ None) }
+        ensures sound { IfOk result (λ edit. AreSoundMods edit.mods) }
+        ensures without { IfOk result (λ edit. (next : WholeState) → edited edit self.now ≡ Ok next
+            → tree_without n self.now ≡ Some (tree_of next.buffers edit.buffer)) }
+        ensures refused { IfErr result (λ fault. fault ≢ LeaveFault.Memory → leaving n self.now ≡ Err fault) }
+        ensures counted { steps.new ≤ steps.old + 1609 * mods_among (take n self.now.past) }
+    {
+        let Some(entry) = self.history.past(n) else {
+            return Err(LeaveFault::Nothing);
+        };
+        let buffer = entry.buffer;
+        let tree = tree_at(&self.buffers, buffer);
+        match left_of(alloc, &self.history, tree, buffer, n, steps)? {
+            Left::Mods(mods) => {
+                all_sound(mods.as_slice());
+                Ok(Edit {
+                    buffer,
+                    mods,
+                    cursor: None,
+                })
+            }
+            Left::Entangled(k) => Err(LeaveFault::Entangled(n - 1 - k)),
+            Left::Refused(_, cause) => Err(LeaveFault::Refused(cause)),
+        }
     }
 
     /// Puts the cursor at a place of the document. It takes no memory.

@@ -1,6 +1,6 @@
 use Rattle.std.proofs.Common.{refl}
 use Rattle.tx_cmd.specs.declared.command.Command.TheVariants.{Change, Undo, Redo, At, Go, Click, Left, Right, Typed}
-use Rattle.tx_cmd.specs.declared.command.Command.TheVariants.{Backspace, Enter, Cursor, Tree, Work}
+use Rattle.tx_cmd.specs.declared.command.Command.TheVariants.{Backspace, Enter, Cursor, Tree, Work, UndoAt}
 use Rattle.tx_session.specs.Saying.{reply_mark}
 use Rattle.tx_session.specs.Worlds.{plain}
 use Rattle.tx_session.proofs.Refreshed.{free_takes, still_keeps}
@@ -53,6 +53,17 @@ returns-in-Undo-clause-replied g c =
     c.say-in-Undo.ensures.said
     c.undo.ensures.keeps
     c.undo.ensures.takes
+
+pub returns-in-UndoAt-clause-replied : goal.returns-in-UndoAt-clause-replied
+returns-in-UndoAt-clause-replied g c =
+    let store = g.S.Store.seen c.args.store.now in
+    is_replied (UndoAt c.in-UndoAt.n) c.args.command.now c.args.self.now c.undo_at.new.self store store _ _
+    c.undo_at.result c.text-in-UndoAt.result.now c.say-in-UndoAt.result (g.O.Sink.seen c.args.out.now).written
+    (g.O.Sink.seen c.say-in-UndoAt.new.out).written c.in-UndoAt.is c.text-in-UndoAt.ensures
+    (c.undo_at.ensures.replied store)
+    c.say-in-UndoAt.ensures.said
+    c.undo_at.ensures.keeps
+    c.undo_at.ensures.takes
 
 pub returns-in-Redo-clause-replied : goal.returns-in-Redo-clause-replied
 returns-in-Redo-clause-replied g c =
