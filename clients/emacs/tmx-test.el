@@ -151,6 +151,7 @@
                      ("assign /0 (f a)" "no tree stray 13") ("assign /0 \"\\n\"" "no tree bad-escape 12")
                      ("assign /0 ()" "no tree bad-label 11") ("assign /0 \"<b c>\"" "no tree bad-text 13")
                      ("assign /0 \"x\" y" "no tree after 14") ("at x" "no buffer") ("undo" "no undo") ("redo" "no redo")
+                     ("undo-at 1" "no undo")
                      ("assign /5 \"x\"" "no path-end 0") ("insert /0 0 (em)" "no not-string")
                      ("insert /1 0 \"x\"" "no not-node") ("insert /0 9 \"x\"" "no bad-place 8") ("join / 0" "no differ")
                      ("go /0/3" "no cuts-symbol 3") ("backspace" "no start") ("left" "no start")

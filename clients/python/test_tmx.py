@@ -223,6 +223,25 @@ class Commands(InFolder):
             doc.join("/", 0)
             self.assertEqual(doc.tree().print(), b'(document "abc" (f "x" "y"))')
 
+    def test_undo_at(self) -> None:
+        with self.open('(document "a" "b")') as doc:
+            doc.insert("/0", 1, "x")
+            doc.insert("/1", 1, "y")
+            doc.insert("/1", 2, "z")
+            doc.undo_at(3)
+            self.assertEqual(doc.tree().print(), b'(document "a" "byz")')
+            doc.undo()
+            self.assertEqual(doc.tree().print(), b'(document "ax" "byz")')
+            with self.assertRaises(tmx.Refused) as missing:
+                doc.undo_at(0)
+            self.assertEqual(missing.exception.kind, "undo")
+        with self.open('(document "a")') as doc:
+            doc.insert("/0", 1, "xy")
+            doc.insert("/0", 2, "-")
+            with self.assertRaises(tmx.Refused) as entangled:
+                doc.undo_at(2)
+            self.assertEqual((entangled.exception.kind, entangled.exception.numbers), ("entangled", (1,)))
+
     def test_buffers_and_files(self) -> None:
         self.write("d.scm", '(document (style "s") (body (document (hi "x"))))')
         self.write("s.scm", '(document (assign "hi" (macro "x" (concat "Hi " (arg "x")))))')
@@ -452,7 +471,8 @@ REFUSED_LINES = [
     ("go x", "no path 3"), ("assign /0 (em \"c\"", "no tree unclosed 17"), ("assign /0 (f a)", "no tree stray 13"),
     ("assign /0 \"\\n\"", "no tree bad-escape 12"), ("assign /0 ()", "no tree bad-label 11"),
     ("assign /0 \"<b c>\"", "no tree bad-text 13"), ("assign /0 \"x\" y", "no tree after 14"), ("at x", "no buffer"),
-    ("undo", "no undo"), ("redo", "no redo"), ("assign /5 \"x\"", "no path-end 0"), ("go /", "no path-end 0"),
+    ("undo", "no undo"), ("redo", "no redo"), ("undo-at 1", "no undo"), ("undo-at", "no args 7"),
+    ("assign /5 \"x\"", "no path-end 0"), ("go /", "no path-end 0"),
     ("assign /1/0/2 \"x\"", "no path-end 2"), ("insert /0 0 (em)", "no not-string"),
     ("insert /1 0 \"x\"", "no not-node"),
     ("insert /1 0 (em)", "no not-node"), ("assign-node /0 em", "no not-node"),

@@ -742,6 +742,10 @@ class Document:
         """Takes back the last edit that isn't undone, in whichever buffer."""
         self._accepted("undo")
 
+    def undo_at(self, n: int) -> None:
+        """Takes back the n-th last edit alone, the last one being 1, and leaves the later ones."""
+        self._accepted("undo-at", n)
+
     def redo(self) -> None:
         """Takes back the last `undo`."""
         self._accepted("redo")
