@@ -230,7 +230,7 @@
 (ert-deftest tmx-test-memory ()
   (tmx-test-in-folder
     (tmx-test-write "d.scm" (make-string 15000000 ?a))
-    (should (equal (tmx-test-wrapped "ulimit -v 20000; exec TMX \"$@\"") '(8 "memory")))))
+    (should (equal (tmx-test-wrapped "ulimit -v 12000; exec TMX \"$@\"") '(8 "memory")))))
 
 (ert-deftest tmx-test-script-long ()
   (tmx-test-session session "(document \"a\")"
