@@ -2,6 +2,7 @@
 #![tactic(auto)]
 
 mod environment;
+mod name_hash;
 mod pairs;
 mod scoped;
 mod writes;

@@ -5,6 +5,7 @@ ghost use Rattle.std.specs.Map.{keys_of};
 ghost use Rattle.std.specs.Str.{bytes_eq};
 ghost use Rattle.tx_env.specs.Pairs.{find, listed, put};
 
+use crate::name_hash::NameHash;
 use indexmap::IndexMap;
 use std::alloc::Global;
 use std::marker::Model;
@@ -16,7 +17,7 @@ use tx_tree::{Text, Tree};
 /// Contracts see a list of pairs, in the order in which the names first came.
 #[derive(Drop)]
 pub struct Pairs {
-    map: IndexMap<Text, Option<Tree>>,
+    map: IndexMap<Text, Option<Tree>, NameHash>,
 }
 
 impl Model for Pairs {
@@ -37,7 +38,7 @@ impl Pairs {
         ensures { result ≡ [] }
     {
         Pairs {
-            map: IndexMap::new(alloc),
+            map: IndexMap::with_hasher(alloc, NameHash::new()),
         }
     }
 
@@ -63,7 +64,22 @@ impl Pairs {
         ensures ok { OnOk result (self.new ≡ put name value self.old) }
         ensures err { OnErr result (self.new ≡ self.old) }
     {
+        if self.map.len() == self.map.capacity() {
+            self.grow()?;
+        }
         let _before = self.map.insert(name, value)?;
+        Ok(())
+    }
+
+    // Makes room for as many pairs more, and hashes all names by a key that is made from them.
+    fn grow(&mut self) -> Result<(), Memory>
+        ensures { self.new ≡ self.old }
+    {
+        let room = (2 * self.map.len()).max(1);
+        let hash = NameHash::of_names(&self.map);
+        let mut map = IndexMap::with_capacity_and_hasher(*self.map.allocator(), room, hash)?;
+        map.append(&mut self.map)?;
+        self.map = map;
         Ok(())
     }
 
