@@ -123,7 +123,7 @@ module _ (k : ℕ) (below : Eval) (f : Frame) (label : List ℕ) (kids : List Ta
   unfolding others
   pick_false s1 h = sym (opened ∙ ap (on_done e (decided k label branch others)) h)
 
--- behind all conditions
+-- after all conditions
 module _ (k : ℕ) (below : Eval) (f : Frame) (label : List ℕ) (kids : List TaggedTree) (i n : ℕ) (e : Before) (s : State)
     (r : Ran WideValue) (all : i ≡ n) (run : chosen k below f label (drop (2 * i) kids) e s ≡ r) where
   there_is : chosen k below f label (drop (2 * n) kids) e s ≡ r

@@ -137,7 +137,7 @@ module _ {A : Type 0} (a : A) (d k : ℕ) (e : Before) (o : NameMap) (q : LookMa
       ∙ rest_less_by (nat_le d k) n (l - (m + 1)) i refl ∙ sym (all_then (m + 1) n l i more))
       (cases_lt l (m + 1))
 
-  -- one step is paid before the levels are judged in place of behind them
+  -- one step is paid before the levels are judged, and not after them
   earlier : (m n l i : ℕ) → (pay m >> rest (n + 1)) e (state l i) ≡ (pay (m + 1) >> rest n) e (state l i)
   earlier m n l i = ⊎_elim
       (λ (lt : l < m). all_over m (n + 1) l i lt ∙ sym (all_over (m + 1) n l i (omega (arith, lt))))

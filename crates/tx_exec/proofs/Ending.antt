@@ -136,7 +136,7 @@ distinct_sets [] h = tt
 distinct_sets ((y, None) ∷ ps) h = distinct_sets ps h.1
 distinct_sets ((y, Some t) ∷ ps) h = (none_among y ps h.0, distinct_sets ps h.1)
 
--- names that stand once in what was noted do so in what was set
+-- names that occur once in what was noted do so in what was set
 pub sets_once : (ps : Pairs) (ws : List (Name × WideTree)) → ws ≡ set_pairs ps → IsDistinct bytes_eq (keys_of ps)
     → IsDistinct bytes_eq (keys_of ws)
 sets_once ps ws e h = subst (λ us. IsDistinct bytes_eq (keys_of us)) (sym e) (distinct_sets ps h)

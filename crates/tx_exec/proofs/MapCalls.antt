@@ -119,7 +119,7 @@ module _ (k : ℕ) (below : Eval) (f : Frame) (label : List ℕ) where
       cc in three_same u v w a b c (x ∷ y ∷ []) d e i
   three_kids (u ∷ v ∷ w ∷ x ∷ y ∷ z ∷ ts) a b c h g p q r = absurd (omega (arith, g))
 
-  -- ---- what the numbers come to
+  -- ---- what the numbers evaluate to
 
   pub numbers_bad : (foo root x : List ℕ) (count : ℕ) (o : Option (List ℤ)) → o ≡ None
       → map_numbered k below f label foo root x count o ≡ wrong k (codes "bad") label

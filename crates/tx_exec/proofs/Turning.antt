@@ -16,7 +16,7 @@ use Rattle.tx_exec.proofs.Choosing.{by_truth}
 
 module _ (k : ℕ) (below : Eval) (f : Frame) (label : List ℕ) (c b : TaggedTree) (vs : List WideValue) (e : Before)
     (s : State) (r : Ran WideValue) (m : ℕ) (no_more : m ≡ 0) (run : turns m k below f label c b vs e s ≡ r) where
-  -- behind the last turn
+  -- after the last turn
   limit : Run WideValue
   limit = wrong k (codes "limit") label
 

@@ -52,7 +52,7 @@ two_front ts i x v a b =
     let next : 2 * i + 1 + 1 ≡ 2 * (i + 1) = omega arith in
     drop_item ts (2 * i) x a ∙ ap (λ us. x ∷ us) (drop_item ts (2 * i + 1) v b) ∙ ap (λ n. x ∷ v ∷ drop n ts) next
 
--- a name and what is behind it, at once
+-- a name and what is after it, at once
 module _ (k : ℕ) (label : List ℕ) (e : Before) (behind : Run WideValue) (go : Pair → Run WideValue) where
   by_value : (name : WideValue) (x : Name) (r : Ran WideValue)
       → on_done e (λ v. go (record { name = name; words = x; value = v })) r
@@ -103,7 +103,7 @@ two_kids k below f label at (x ∷ v ∷ w ∷ ts) e s n = absurd (omega (arith,
 module _ (k : ℕ) (below : Eval) (f : Frame) (label : List ℕ) (at : Option (List ℕ)) (ts : List TaggedTree) (i : ℕ)
     (vs : List WideValue) (ps : Sets) (e : Before) (s : State) (r : Ran WideValue) (lt : 2 * i + 1 < length ts)
     (run : with_parts k below f label at vs ps (drop (2 * i) ts) e s ≡ r) where
-  -- what is done behind a name and its value
+  -- what is done after a name and its value
   further : Pair → Run WideValue
   further p =
       with_parts k below f label at (vs ++ p.name ∷ p.value ∷ []) (ps ++ (p.words, Some (plain p.value)) ∷ [])
@@ -136,7 +136,7 @@ module _ (k : ℕ) (below : Eval) (f : Frame) (label : List ℕ) (at : Option (L
 
 -- ---- the body
 
--- what is done behind the body
+-- what is done after the body
 abbrev pub closed : List ℕ → Option (List ℕ) → List WideValue → Sets → WideValue → Run WideValue
 closed label at vs old v = set_all old >> give (made label (vals (vs ++ v ∷ [])) at)
 

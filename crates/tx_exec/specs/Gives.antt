@@ -1,4 +1,4 @@
--- What a function of the evaluator answers is what the definition gives.
+-- What a function of the evaluator returns is what the definition gives.
 use Rattle.std.specs.Prelude.{◌≡◌, ℕ, ◌+◌, Option, Some, None, Result, Ok, Err}
 use Rattle.tx_exec_form.specs.Runs.{State, Ran, Over, Done}
 use Rattle.tx_exec.specs.declared.stop.Stop.{Stop}

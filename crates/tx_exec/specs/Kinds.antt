@@ -35,7 +35,7 @@ IsStill rows.XMacro = Unit {0}
 IsStill rows.Quote = Unit {0}
 IsStill kind = ⊥
 
--- they never come to these
+-- they never evaluate to these
 abbrev pub nothing : Eval
 nothing = λ t f. over
 

@@ -19,12 +19,12 @@ wide_trace t =
       height = t.height;
     }
 
--- None where it is over
+-- None where it runs out
 abbrev pub wide_outcome : Outcome → Option WideTrace
 wide_outcome outcomes.Over = None
 wide_outcome (outcomes.Done trace) = Some (wide_trace trace)
 
--- no name stands twice in the looks, and none in the writes
+-- no name occurs twice in the looks, and none in the writes
 abbrev pub NamesOnce : Outcome → Type 0
 NamesOnce outcomes.Over = Unit {0}
 NamesOnce (outcomes.Done t) = IsDistinct bytes_eq (keys_of t.looks) × IsDistinct bytes_eq (keys_of t.writes)

@@ -17,7 +17,7 @@ run_in below f (Some t) = below t f
 unfoldable pub kid_run : Eval → Frame → List TaggedTree → ℕ → Run WideValue
 kid_run below f kids i = run_in below f (slice_get kids i)
 
--- ---- a name and what is behind it
+-- ---- a name and what is after it
 
 abbrev pub pair_named : Run WideValue → WideValue → Option Name → Run (Option Pair)
 pair_named behind name None = give None

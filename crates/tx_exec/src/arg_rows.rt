@@ -57,7 +57,7 @@ impl Progress {
         }
     }
 
-    // The argument of this name, and the numbers behind it.
+    // The argument of this name, and the numbers after it.
     #[cycle(ev)]
     #[tactic(auto, unfolding(tx_exec_form::specs::Rows::arg_of))]
     fn arg_of<L: Ledger>(
@@ -200,7 +200,7 @@ impl Progress {
         }
     }
 
-    // The numbers behind the parameter of an `xmacro`, and what they lead to.
+    // The numbers after the parameter of an `xmacro`, and what they lead to.
     #[cycle(ev)]
     #[tactic(auto, unfolding(tx_exec_form::specs::Rows::all_part))]
     fn all_part<L: Ledger>(

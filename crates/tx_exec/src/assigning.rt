@@ -87,7 +87,7 @@ impl Progress {
         self.assigned(alloc, env, steps, t, label, frame, levels)
     }
 
-    // The name and what is behind it.
+    // The name and what is after it.
     #[cycle(ev)]
     #[tactic(auto, unfolding(crate::specs::PartRuns::assign_run))]
     fn assigned<L: Ledger>(
@@ -179,7 +179,7 @@ impl Progress {
         }
     }
 
-    // Puts the names and values behind the parts, in order. The error of the first name that is a node, or None where
+    // Puts the names and values after the parts, in order. The error of the first name that is a node, or None where
     // all are texts.
     #[cycle(ev)]
     #[tactic(auto, using(crate::proofs::WithLoop::double_fits, std::proofs::lemmas::Grind::common_steps))]

@@ -35,7 +35,7 @@ pub(crate) struct MapWords {
     pub name: Text,
 }
 
-/// What the numbers of a `map-args` come to.
+/// What the numbers of a `map-args` evaluate to.
 #[derive(Drop)]
 pub(crate) enum MapCall {
     /// One of them is no number.
@@ -114,7 +114,7 @@ fn three_words(
     }
 }
 
-/// The words of this `map-args`, where two labels and a name are its first children, and at most two are behind them.
+/// The words of this `map-args`, where two labels and a name are its first children, and at most two are after them.
 #[tactic(auto, using(crate::proofs::MapCalls::three_rules, std::proofs::lemmas::Grind::common_steps))]
 pub(crate) fn map_words(alloc: Global, t: &Tagged) -> Result<Option<MapWords>, Memory>
     ensures by { IfOk result (λ r. (k : ℕ) (below : Eval) (f : Frame) (label : List ℕ) →

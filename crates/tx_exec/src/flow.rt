@@ -175,7 +175,7 @@ impl Progress {
         }
     }
 
-    // What the first condition that is true picks, or else the last child that stands alone, or nothing.
+    // What the first condition that is true picks, or else the last child that is alone, or nothing.
     #[cycle(ev)]
     fn pick<L: Ledger>(
         &mut self,
@@ -289,7 +289,7 @@ impl Progress {
         }
     }
 
-    // Puts the values of the body behind one another, and answers how they end.
+    // Puts the values of the body after one another, and returns how they end.
     #[cycle(ev)]
     fn all_turns<L: Ledger>(
         &mut self,

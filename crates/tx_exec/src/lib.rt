@@ -1,6 +1,6 @@
 //! The evaluator: the trace of a tree in an environment.
 //!
-//! What a tree comes to is `evaluated` of `tx_exec_form`, and `eval` answers exactly that.
+//! What a tree evaluates to is `evaluated` of `tx_exec_form`, and `eval` returns exactly that.
 #![tactic(auto)]
 
 mod arg_rows;

@@ -46,7 +46,7 @@ impl Progress {
         }
     }
 
-    // The parts of what this name has, and the numbers behind it.
+    // The parts of what this name has, and the numbers after it.
     #[cycle(ev)]
     #[tactic(auto, unfolding(tx_exec_form::specs::Rows::map_args_run))]
     fn map_of<L: Ledger>(

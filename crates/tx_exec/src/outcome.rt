@@ -17,14 +17,14 @@ use tx_base::{Memory, Steps};
 use tx_env::{Env, Writes};
 use tx_origin::{Tagged, Value};
 
-/// What a tree comes to where it is evaluated.
+/// What a tree evaluates to where it is evaluated.
 #[derive(Drop)]
 pub struct Trace {
     /// Its value.
     pub value: Value,
-    /// The names that were looked up and not set before, with what they had. Each stands once.
+    /// The names that were looked up and not set before, with what they had. Each occurs once.
     pub looks: Looks,
-    /// The names that are set at the end, with their trees. Each stands once.
+    /// The names that are set at the end, with their trees. Each occurs once.
     pub writes: Writes,
     /// The fewest steps that suffice.
     pub cost: u64,
@@ -44,7 +44,7 @@ pub enum Outcome {
 /// The trace of the tree without a frame, where this many steps are allowed, at most 1,000,000, and 400 levels.
 ///
 /// `Over` is answered exactly where the cost passes the allowance or the height passes 400. The steps rise by the cost,
-/// or by the allowance where it is over. The environment is as before after every answer.
+/// or by the allowance where it runs out. The environment is as before after every answer.
 #[tactic(auto, using(crate::proofs::Ending::over_iff, std::proofs::lemmas::Grind::common_steps))]
 pub fn eval<L: Ledger>(
     alloc: Global,

@@ -30,7 +30,7 @@ pub(crate) struct Held {
     pub tree: Option<Tree>,
 }
 
-/// A name, its text, and the value behind it.
+/// A name, its text, and the value after it.
 #[derive(Drop)]
 pub(crate) struct Pair {
     pub name: Value,
@@ -63,7 +63,7 @@ impl Parts {
         }
     }
 
-    /// Puts the pair behind the others.
+    /// Puts the pair after the others.
     #[tactic(auto, using(crate::proofs::SettingLoops::pair_rules))]
     pub(crate) fn add(&mut self, pair: Pair) -> Result<(), Memory>
         requires total { self.old.total + size_of (plain pair.value) ≤ 1000000 }
@@ -143,7 +143,7 @@ impl Progress {
     }
 }
 
-/// How many pairs stand before a last child, or None where none is left over.
+/// How many pairs are before a last child, or None where none is left over.
 pub(crate) fn pairs_in(arity: u32) -> Option<u32>
     ensures { MatchOption result ((n : ℕ) × (arity ≡ 2 * n)) (λ n. arity ≡ 2 * n + 1) }
 {
@@ -161,7 +161,7 @@ pub(crate) fn words_of(value: &Value) -> Result<Option<Text>, Memory>
     }
 }
 
-/// The node with this value behind the others.
+/// The node with this value after the others.
 #[tactic(auto, using(crate::proofs::SettingLoops::push_rules))]
 pub(crate) fn made_with(
     alloc: Global,

@@ -86,7 +86,7 @@ module _ (root : TaggedTree) where
   in_root : (at : Option (List ℕ)) (u : WideTree) → LeadsTo root at (λ w. w ≡ u) → LeadsTo root at (λ w. Unit {0})
   in_root at u h = weaker at (λ w. w ≡ u) (λ w. Unit {0}) (λ w e. tt) h
 
-  -- the child of a tree stands at its number behind the tree's origin
+  -- the child of a tree is at its number after the tree's origin
   child_stands : (at : Option (List ℕ)) (i : ℕ) (u v : WideTree) → LeadsTo root at (λ w. w ≡ u) →
       slice_get (children_of u) i ≡ Some v → LeadsTo root (child_at at i) (λ w. w ≡ v)
   child_stands None i u v h g = tt
@@ -101,7 +101,7 @@ module _ (root : TaggedTree) where
         holds = refl;
       }
 
-  -- each of these stands at its number, counted from i, behind the origin
+  -- each of these is at its number, counted from i, after the origin
   abbrev Numbered : Option (List ℕ) → ℕ → Forest → Type 0
   Numbered at i ts = (j : ℕ) (v : WideTree) → slice_get (trees ts) j ≡ Some v →
       LeadsTo root (child_at at (i + j)) (λ w. w ≡ v)
@@ -618,7 +618,7 @@ module _ (root : TaggedTree) where
     all_come zero ts f s h = record { runs = λ e s. tt }
     all_come (suc k) ts f s h = tuples_come (suc k) (ex k) (ex_comes k) f h ts s
 
--- the root stands where it stands
+-- the root is where it is
 root_stands : (root : TaggedTree) (at : Option (List ℕ)) → root.at ≡ at → LeadsTo root at (λ w. w ≡ root.tree)
 root_stands root None h = tt
 root_stands root (Some p) h = record {

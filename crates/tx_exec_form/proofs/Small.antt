@@ -70,7 +70,7 @@ module _ {A : Type 0} {R : A → State → Type 0} where
   pub weaker : {P P' : State → Type 0} {m : Run A} → ((s : State) → P' s → P s) → Leads P m R → Leads P' m R
   weaker h g = record { runs = λ e s p. g.runs e s (h s p) }
 
--- a value behind which something else is done
+-- a value after which something else is done
 pub after : {A : Type 0} {R : A → State → Type 0} (l j i : ℕ) {m : Run WideValue} {f : WideValue → Run A} →
     Leads (At l i) m (Fits l j i)
     → ((v : WideValue) → size_of (plain v) ≤ l → depth_of (plain v) ≤ j →
@@ -181,7 +181,7 @@ pub depth_push : (vs : List WideValue) (v : WideValue) →
     deepest (plains (vals (vs ++ v ∷ []))) ≡ max (deepest (plains (vals vs))) (depth_of (plain v))
 depth_push vs v = omega (arith, deepest-append vs (v ∷ []))
 
--- ---- the rows, at level j + 1, where l + 1 steps were left and so l are left behind the step of the node
+-- ---- the rows, at level j + 1, where l + 1 steps were left and so l are left after the step of the node
 
 module _ (j : ℕ) where
   wrongs : (l l' i i' : ℕ) (kind detail : List ℕ) → l ≤ l' → i ≤ i' →
@@ -418,7 +418,7 @@ module _ (j : ℕ) where
       numbereds taking label x t (Some ns) l l' i i' p r = part_useds taking x (part_of t ns) l l' i i' p r
       numbereds taking label x t None l l' i i' p r = bads label l l' i i' p r
 
-      -- behind values of which only the steps and levels left count
+      -- after values of which only the steps and levels left count
       behind_values : (m : List WideValue → Run WideValue) (l i : ℕ) →
           ((vs : List WideValue) → Leads (At l i) (m vs) (Fits (suc l) (suc j) i)) → (vs : List WideValue) →
           Leads (FitAll l j i vs) (m vs) (Fits (suc l) (suc j) i)
@@ -647,7 +647,7 @@ module _ (j : ℕ) where
         rows_fit rows.While t label kids l i le = whiles label kids l i le
         rows_fit rows.Tag t label kids l i le = by_names label t.at kids l i (primitive_named label) le
 
-    -- behind the step of a node
+    -- after the step of a node
     nearer : (l i : ℕ) → 1 ≤ l → (r : Ran WideValue) → Ends (Fits (suc (l - 1)) (suc j) (min i (suc j - 1))) r →
         Ends (Fits l (suc j) i) r
     nearer l i b Over h = tt

@@ -110,7 +110,7 @@ over_of trace k c t e (Some found) q h p few =
       | inr less ↦ absurd (omega (arith, less, heights, bounds.1))
     ]
 
--- with fewer steps or levels the tree is over
+-- with fewer steps or levels the tree runs out
 pub over : (k c : ℕ) (t : TaggedTree) (e : Before) (trace : WideTrace) → evaluated_in k c t e ≡ Some trace →
     (k' c' : ℕ) (e' : Before) → Agrees e' trace.looks → (c' < trace.cost) ⊎ (k' < trace.height) →
     evaluated_in k' c' t e' ≡ None

@@ -1,4 +1,4 @@
--- What evaluation of a tree comes to.
+-- What a tree evaluates to.
 use Rattle.std.specs.Prelude.{ℕ, ◌-◌, Option, Some, None}
 use Rattle.std.specs.FinMap.{empty}
 use Rattle.tx_env.specs.Environments.{NameMap}

@@ -24,7 +24,7 @@ Supports trace t = (k c : ℕ) (e : Before) → Agrees e trace.looks → trace.c
 abbrev pub IsPast : ℕ → ℕ → TaggedTree → Before → Type 0
 IsPast k c t e = (trace : WideTrace) → Supports trace t → Agrees e trace.looks → (c < trace.cost) ⊎ (k < trace.height)
 
--- The origin is the root's with a path behind it, which leads to a subtree of which P is true.
+-- The origin is the root's with a path after it, which leads to a subtree of which P is true.
 pub record LeadsIn (root : TaggedTree) (origin : List ℕ) (P : WideTree → Type 0) : Type 0 where
   pub base : List ℕ
   pub path : List ℕ
@@ -39,7 +39,7 @@ abbrev pub LeadsTo : TaggedTree → Option (List ℕ) → (WideTree → Type 0) 
 LeadsTo root None P = Unit {0}
 LeadsTo root (Some origin) P = LeadsIn root origin P
 
--- Each text that has an origin is the text that stands there, and the origin of each node leads in the tree.
+-- Each text that has an origin is the text that is there, and the origin of each node leads in the tree.
 abbrev mutual
   pub ComesFrom : TaggedTree → WideValue → Type 0
   ComesFrom root (text words at) = LeadsTo root at (λ u. u ≡ leaf words)

@@ -54,7 +54,7 @@ taken k v = do
 
 -- ---- children evaluated in order
 
--- behind the values so far
+-- after the values so far
 abbrev pub each : Eval → Frame → List WideValue → List TaggedTree → Run (List WideValue)
 each below f vs [] = give vs
 each below f vs (t ∷ ts) = do

@@ -1,4 +1,4 @@
--- What evaluation does: it goes on from a state, or it is over.
+-- What evaluation does: it goes on from a state, or it runs out.
 use Rattle.std.specs.Prelude.{ℕ, ◌-◌, min, nat_le, if◌then◌else◌, Option, Some, None}
 use Rattle.std.specs.FinMap.{get}
 use Rattle.tx_tree.specs.WideTree.{WideTree}

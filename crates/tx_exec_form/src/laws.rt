@@ -32,7 +32,7 @@ pub fn size_law()
         (size_of (plain trace.value) ≤ trace.cost) × (depth_of (plain trace.value) ≤ trace.height) }
 {}
 
-/// Where the tree has an origin, each text of its value that has one is the text that stands there in the tree, and the
+/// Where the tree has an origin, each text of its value that has one is the text that is there in the tree, and the
 /// origin of each node leads in it. A tree without an origin gives a value without origins.
 pub fn origin_law()
     ensures { (k c : ℕ) (t : TaggedTree) (e : Before) (trace : WideTrace) → evaluated_in k c t e ≡ Some trace →
