@@ -41,6 +41,8 @@ No way is counted twice.
 A staircase of 8 steps is climbed in 34 ways.
 </corollary>
 
+<big-table|<tabular|<tformat|<cwith|1|-1|1|-1|cell-halign|r>|<table|<row|<cell|<math|n>>|<cell|1>|<cell|2>|<cell|3>|<cell|4>|<cell|5>|<cell|6>|<cell|7>|<cell|8>>|<row|<cell|<math|w<rsub|n>>>|<cell|1>|<cell|2>|<cell|3>|<cell|5>|<cell|8>|<cell|13>|<cell|21>|<cell|34>>>>>|The numbers of ways>
+
 <\bibliography|bib|plain|stairs>
 <\bib-list|1>
 <bibitem*|Lucas91>E. Lucas. <em|Th\<#E9\>orie des nombres>. Paris, 1891.
