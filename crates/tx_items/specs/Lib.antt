@@ -4,6 +4,7 @@ pub mod Fields
 pub mod Looks
 pub mod LookView
 pub mod Drawing
+pub mod Cells
 pub mod Rules
 pub mod Rows
 pub mod Shows

@@ -2,6 +2,7 @@
 #![tactic(auto)]
 
 mod attributes;
+mod cells;
 mod drawing;
 mod plans;
 mod rows;
@@ -10,5 +11,6 @@ mod units;
 mod words;
 
 pub use attributes::Attrs;
+pub use cells::item_cells;
 pub use drawing::{Drawn, ErrorAt, Item, Items, Look, Paragraph};
 pub use units::{PartItems, after, items, part_items};
