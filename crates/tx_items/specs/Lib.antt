@@ -5,7 +5,9 @@ pub mod Looks
 pub mod LookView
 pub mod Drawing
 pub mod Cells
+pub mod Tables
 pub mod Rules
+pub mod Flat
 pub mod Rows
 pub mod Shows
 pub mod Narrow

@@ -4,9 +4,11 @@
 mod attributes;
 mod cells;
 mod drawing;
+mod flat;
 mod plans;
 mod rows;
 mod showing;
+mod tables;
 mod units;
 mod words;
 
