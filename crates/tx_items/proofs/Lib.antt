@@ -1,5 +1,9 @@
 mod Walks
 mod Runs
+mod Flatness
+mod Below
+mod FlatLoops
+mod RowsShown
 mod Documents
 mod Planning
 mod ByRule

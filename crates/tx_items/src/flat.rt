@@ -11,6 +11,7 @@ use tx_prim::parse_length;
 use tx_table::grid_of;
 
 // Whether a value shows in a line that nothing in it ends.
+#[tactic(auto, using(crate::proofs::FlatLoops::looping, std::proofs::lemmas::Grind::common_steps))]
 #[cycle(flat)]
 fn is_flat(alloc: Global, value: &Value) -> Result<bool, Memory>
     ensures { IfOk result (λ b. b ≡ is_flat value.now) }
@@ -35,6 +36,7 @@ fn is_flat(alloc: Global, value: &Value) -> Result<bool, Memory>
 }
 
 // Whether all parts are flat.
+#[tactic(auto, using(crate::proofs::FlatLoops::looping, std::proofs::lemmas::Grind::common_steps))]
 #[cycle(flat)]
 fn all_flat(alloc: Global, parts: &[Value]) -> Result<bool, Memory>
     ensures { IfOk result (λ b. b ≡ all_flat (vals parts.now)) }
@@ -48,6 +50,7 @@ fn all_flat(alloc: Global, parts: &[Value]) -> Result<bool, Memory>
 }
 
 // Whether the last part behind pairs is flat. Where there is none, an error is shown.
+#[tactic(auto, using(crate::proofs::FlatLoops::looping, std::proofs::lemmas::Grind::common_steps))]
 #[cycle(flat)]
 fn last_flat(alloc: Global, value: &Value) -> Result<bool, Memory>
     ensures { IfOk result (λ b. b ≡ last_flat (vals (value_parts value.now))) }
@@ -60,6 +63,7 @@ fn last_flat(alloc: Global, value: &Value) -> Result<bool, Memory>
 }
 
 // Whether a value is a `tabular` that shows as a table: of the asked form, with cells that are flat.
+#[tactic(auto, using(crate::proofs::FlatLoops::looping, std::proofs::lemmas::Grind::common_steps))]
 #[cycle(flat)]
 pub(crate) fn shows_table(alloc: Global, value: &Value) -> Result<bool, Memory>
     ensures { IfOk result (λ b. b ≡ shows_table value.now) }
@@ -76,6 +80,7 @@ pub(crate) fn shows_table(alloc: Global, value: &Value) -> Result<bool, Memory>
 }
 
 // Whether a space down is an error, so that it ends no line.
+#[tactic(auto, using(crate::proofs::FlatLoops::spaces, std::proofs::lemmas::Grind::common_steps))]
 fn flat_space(value: &Value) -> bool
     ensures { result ≡ flat_space (vals (value_parts value.now)) }
 {

@@ -458,6 +458,7 @@ impl Showing {
     }
 
     // Shows a value as a cell, and takes its items out of the run.
+    #[tactic(auto, using(crate::proofs::Planning::choosing, std::proofs::lemmas::Grind::common_steps))]
     #[cycle(show)]
     fn cell(&mut self, alloc: Global, value: &Value) -> Result<CellItems, Memory>
         requires { is_flat value.now ≡ true }
@@ -469,6 +470,7 @@ impl Showing {
     }
 
     // Shows the cells of a row.
+    #[tactic(auto, using(crate::proofs::FlatLoops::cells, std::proofs::lemmas::Grind::common_steps))]
     #[cycle(show)]
     fn row(&mut self, alloc: Global, cells: &[Value]) -> Result<RowCells, Memory>
         requires { all_flat (vals cells.now) ≡ true }
@@ -483,6 +485,7 @@ impl Showing {
     }
 
     // Shows the cells of rows.
+    #[tactic(auto, using(crate::proofs::FlatLoops::cells, std::proofs::lemmas::Grind::common_steps))]
     #[cycle(show)]
     fn rows(&mut self, alloc: Global, rows: &[CellRow]) -> Result<Vec<TableRow>, Memory>
         requires { all_flat (vals (all_cells rows.now)) ≡ true }
@@ -526,6 +529,7 @@ impl Showing {
     }
 
     // Adds a table, or an error where it shows as none.
+    #[tactic(auto, using(crate::proofs::FlatLoops::cells, std::proofs::lemmas::Grind::common_steps))]
     #[cycle(show)]
     fn tabular(
         &mut self,

@@ -151,6 +151,7 @@ fn add_between(items: &mut Vec<Item>, at: usize) -> Result<(), Memory>
 }
 
 // The cells of columns, with the gap before each of them.
+#[tactic(auto, using(crate::proofs::RowsShown::columns, std::proofs::lemmas::Grind::common_steps))]
 fn cells_of_columns(columns: &[u32]) -> Result<u32, Memory>
     ensures { IfOk result (λ n. n ≡ gaps_and_columns columns.now) }
 {
@@ -168,6 +169,7 @@ fn cells_of_columns(columns: &[u32]) -> Result<u32, Memory>
 }
 
 // Adds one gap for the columns that a row lacks.
+#[tactic(auto, using(crate::proofs::RowsShown::columns, std::proofs::lemmas::Grind::common_steps))]
 fn add_missing(items: &mut Vec<Item>, columns: &[u32]) -> Result<(), Memory>
     ensures { OnOk result (items.new.items ≡ items.old.items ++ missing_gap columns.now) }
 {
