@@ -6,7 +6,7 @@ use Rattle.std.specs.Prelude.{codes, option_and_then, if◌then◌else◌}
 use Rattle.std.specs.List.{enumerate_from, range_with_len}
 use Rattle.std.specs.Option.{option_map}
 use Rattle.std.specs.Str.{bytes_eq}
-use Rattle.std.proofs.lemmas.List.{length-map}
+use Rattle.std.proofs.lemmas.List.{length-map, length-append}
 use Rattle.std.proofs.lemmas.List.FromFn.{length-range_with_len}
 use Rattle.tx_tree.specs.WideTree.{depth_of, deepest}
 use Rattle.tx_origin.specs.Values.{WideValue, WideValues, text, made, none, also, vals, each_of, plain, plains}
@@ -238,9 +238,63 @@ last_in levels (u ∷ []) v e = let same : u ≡ v = cc in one u ∙ ap (in_valu
     one (made label ws at) = refl
 last_in levels (u ∷ (w ∷ us)) v e = last_in levels (w ∷ us) v e
 
--- a grid, and the rows that it has
+-- each is more than 0
+abbrev pub AreSome : List ℕ → Type 0
+AreSome [] = Unit {0}
+AreSome (n ∷ ns) = (0 < n) × AreSome ns
+
+abbrev pub sum_of : List ℕ → ℕ
+sum_of [] = 0
+sum_of (n ∷ ns) = n + sum_of ns
+
+some_there : {X : Type 0} (us xs : List X) → some_of us ≡ Some xs → 0 < length xs
+some_there [] xs e = absurd cc
+some_there (u ∷ us) xs e = let same : u ∷ us ≡ xs = cc in rw (← same) (omega arith)
+
+all_long : {X : Type 0} (f : WideValue → Option X) (us : List WideValue) (xs : List X)
+    → all_some (map f us) ≡ Some xs → length xs ≡ length us
+all_long f [] xs e = let same : [] ≡ xs = cc in rw (← same) refl
+all_long f (u ∷ us) xs e = pick (f u) (all_some (map f us)) refl e
+  where
+    pick : (o : Option X) (p : Option (List X)) → all_some (map f us) ≡ p → all_some (o ∷ map f us) ≡ Some xs
+        → length xs ≡ suc (length us)
+    pick None p j k = absurd cc
+    pick (Some x) None j k =
+        let no : option_map (λ ys. x ∷ ys) None ≡ Some xs = ap (option_map (λ ys. x ∷ ys)) (sym j) ∙ k in absurd cc
+    pick (Some x) (Some ys) j k =
+        let whole : option_map (λ zs. x ∷ zs) (Some ys) ≡ Some xs = ap (option_map (λ zs. x ∷ zs)) (sym j) ∙ k in
+        let same : x ∷ ys ≡ xs = cc in
+        sym (ap length same) ∙ ap suc (all_long f us ys j)
+
+row_some : (v : WideValue) (row : List WideValue) → row_cells v ≡ Some row → 0 < length row
+row_some v row e =
+    let p = then_some (λ vs. all_some (map cell_value vs)) (some_parts (codes "row") v) row e in
+    let q = then_some some_of (parts_if (codes "row") v) p.0 p.1.0 in
+    omega (arith, some_there q.0 p.0 q.1.1, all_long cell_value p.0 row p.1.1)
+
+all_rows_some : (us : List WideValue) (rows : List (List WideValue)) → all_some (map row_cells us) ≡ Some rows
+    → AreSome (map length rows)
+all_rows_some [] rows e = let same : [] ≡ rows = cc in subst (λ rs. AreSome (map length rs)) same tt
+all_rows_some (u ∷ us) rows e = pick (row_cells u) refl (all_some (map row_cells us)) refl e
+  where
+    pick : (o : Option (List WideValue)) → row_cells u ≡ o → (p : Option (List (List WideValue)))
+        → all_some (map row_cells us) ≡ p → all_some (o ∷ map row_cells us) ≡ Some rows → AreSome (map length rows)
+    pick None i p j k = absurd cc
+    pick (Some x) i None j k =
+        let no : option_map (λ ys. x ∷ ys) None ≡ Some rows = ap (option_map (λ ys. x ∷ ys)) (sym j) ∙ k in absurd cc
+    pick (Some x) i (Some ys) j k =
+        let whole : option_map (λ zs. x ∷ zs) (Some ys) ≡ Some rows = ap (option_map (λ zs. x ∷ zs)) (sym j) ∙ k in
+        let same : x ∷ ys ≡ rows = cc in
+        subst (λ rs. AreSome (map length rs)) same ((row_some u x i, all_rows_some us ys j))
+
+rows_some : (v : WideValue) (rows : List (List WideValue)) → table_rows v ≡ Some rows → AreSome (map length rows)
+rows_some v rows e =
+    let p = then_some (λ vs. all_some (map row_cells vs)) (some_parts (codes "table") v) rows e in
+    all_rows_some p.0 rows p.1.1
+
+-- a grid, and the cells that it has
 abbrev Holds : Grid → List WideValue → Type 0
-Holds g cells = (map length g.sides ≡ map length g.rows) × (all_cells g.rows ≡ cells)
+Holds g cells = (map length g.sides ≡ map length g.rows) × (all_cells g.rows ≡ cells) × (AreSome (map length g.rows))
 
 lengths_from : (settings : List Setting) (k : ℕ) (rows : List (List WideValue))
     → map length (map (λ row. row_sides settings row.0 (length row.1)) (enumerate_from k rows)) ≡ map length rows
@@ -256,7 +310,7 @@ table_holds sets v g e =
     let p = map_some (grid_with sets) (table_rows v) g e in
     let settings : List Setting = settings_in (length p.0) (column_count p.0) sets in
     subst (λ x. Holds x (in_value (Every ∷ (Every ∷ [])) v)) p.1.1
-    ((lengths_from settings 0 p.0, sym (rows_in v p.0 p.1.0)))
+    ((lengths_from settings 0 p.0, sym (rows_in v p.0 p.1.0), rows_some v p.0 p.1.0))
 
 format_holds : (v : WideValue) (g : Grid) → format_grid v ≡ Some g
     → Holds g (cells_below (levels_of (also v none)) (also v none))
@@ -282,7 +336,7 @@ format_holds (made label vs at) g e = pick (bytes_eq label (codes "tformat")) e
         )
     pick false h =
         let own = table_holds [] (made label vs at) g h in
-        (own.0, own.1 ∙ sym (append-nil (cells_below (Every ∷ (Every ∷ [])) vs)))
+        (own.0, own.1 ∙ sym (append-nil (cells_below (Every ∷ (Every ∷ [])) vs)), own.2)
 
 only_part : (label : List ℕ) (v : WideValue) (us : List WideValue) (x : WideValue) (vs : WideValues) (l : List ℕ)
     (at : Option (List ℕ)) → v ≡ made l vs at → parts_if label v ≡ Some us → one_of us ≡ Some x → vs ≡ also x none
@@ -303,6 +357,7 @@ only_part label v us x vs l at is e f =
 pub grid_holds : (label : List ℕ) (vs : WideValues) (at : Option (List ℕ)) (g : Grid)
     → grid_of (made label vs at) ≡ Some g
     → (map length g.sides ≡ map length g.rows) × (all_cells g.rows ≡ cells_below (levels_of vs) vs)
+    × (AreSome (map length g.rows))
 grid_holds label vs at g e =
     let p = then_some format_grid (option_and_then one_of (parts_if (codes "tabular") (made label vs at))) g e in
     let q = then_some one_of (parts_if (codes "tabular") (made label vs at)) p.0 p.1.0 in
@@ -315,3 +370,25 @@ pub grid_shallower : (label : List ℕ) (vs : WideValues) (at : Option (List ℕ
     → deepest (plains (vals (all_cells g.rows))) < depth_of (plain (made label vs at))
 grid_shallower label vs at g e =
     rw ((grid_holds label vs at g e).1) (omega (arith, below_deep (levels_of vs) vs))
+
+-- ---- how many cells there are
+
+pub each_length : (a : Attrs) (xs : List WideValue) → length (show_all false a (vals xs)).each ≡ length xs
+unfolding show_all
+each_length a [] = refl
+each_length a (x ∷ xs) = omega (arith, each_length (show a x).after xs)
+
+cells_long : (rows : List (List WideValue)) → length (all_cells rows) ≡ sum_of (map length rows)
+cells_long [] = refl
+cells_long (row ∷ rows) = omega (arith, length-append row (all_cells rows), cells_long rows)
+
+pub cells_known : (a : Attrs) (label : List ℕ) (vs : WideValues) (at : Option (List ℕ)) (grid : Grid)
+    → grid_of (made label vs at) ≡ Some grid
+    → (AreSome (map length grid.sides))
+    × (length (show_below (levels_of vs) a vs).each ≡ sum_of (map length grid.sides))
+cells_known a label vs at grid e =
+    let h = grid_holds label vs at grid e in (
+      subst AreSome (sym h.0) h.2,
+      ap (λ x. length x.each) (below_all (levels_of vs) a vs) ∙ each_length a (cells_below (levels_of vs) vs)
+          ∙ ap length (sym h.1) ∙ cells_long grid.rows ∙ ap sum_of (sym h.0),
+    )

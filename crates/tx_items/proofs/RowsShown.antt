@@ -20,7 +20,7 @@ use Rattle.tx_items.specs.Shows.{ItemRun, empty, begun, run_of, beside, Form, in
 use Rattle.tx_items.specs.Shows.{both_shown, run_items, items_in, fits_cell, after_each, shown_rows, show, show_all}
 use Rattle.tx_items.specs.Running.{State, Adds, HasShown, HasCells, HasRows, all_cells, gaps_and_columns, padded_from}
 use Rattle.tx_items.proofs.Flatness.{items_of_run, fits_flat}
-use Rattle.tx_items.proofs.Below.{all_append, all_first, all_nothing}
+use Rattle.tx_items.proofs.Below.{all_append, all_first, all_nothing, each_length}
 
 pub first_at : {X : Type 0} (xs : List X) (i : ℕ) (x : X) → i < length xs → x ≡ get_or xs i x
     → drop i xs ≡ x ∷ drop (i + 1) xs
@@ -206,11 +206,6 @@ pub cells_pushed : (all : AllShown) (s w : State) (row more : List (List Item)) 
 cells_pushed all s w row more c h = subst (HasCells all s w) (sym (append_assoc row (c ∷ []) more)) h
 
 -- ---- what rows show
-
-each_length : (a : Attrs) (xs : List WideValue) → length (show_all false a (vals xs)).each ≡ length xs
-unfolding show_all
-each_length a [] = refl
-each_length a (x ∷ xs) = omega (arith, each_length (show a x).after xs)
 
 each_after : (a : Attrs) (xs : List WideValue)
     → after_each a (show_all false a (vals xs)).each ≡ (show_all false a (vals xs)).after
