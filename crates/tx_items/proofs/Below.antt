@@ -12,7 +12,7 @@ use Rattle.tx_tree.specs.WideTree.{depth_of, deepest}
 use Rattle.tx_origin.specs.Values.{WideValue, WideValues, text, made, none, also, vals, each_of, plain, plains}
 use Rattle.tx_origin.proofs.Parts.{vals_each, deepest-append}
 use Rattle.tx_table.specs.declared.grids.Grid.{Grid}
-use Rattle.tx_table.specs.declared.settings.Setting.{Setting}
+use Rattle.tx_table.specs.declared.settings.Side.{Side}
 use Rattle.tx_table.specs.Settings.{parts_if, side_at, row_sides, sides_of, settings_in}
 use Rattle.tx_table.specs.Grids.{all_some, some_of, one_of, cell_value, some_parts, row_cells, table_rows}
 use Rattle.tx_table.specs.Grids.{column_count, before_last, last_of, grid_with, table_grid, format_grid, grid_of}
@@ -186,17 +186,21 @@ each_in : {X : Type 0} (f : WideValue → Option X) (g : X → List WideValue) (
     → (us : List WideValue) (xs : List X) → all_some (map f us) ≡ Some xs
     → cells_below (Every ∷ levels) (vals us) ≡ joined_by g xs
 each_in f g levels h [] xs e = let same : [] ≡ xs = cc in ap (joined_by g) same
-each_in f g levels h (u ∷ us) xs e = pick (f u) refl (all_some (map f us)) refl e
+each_in {X = X} f g levels h (u ∷ us) xs e =
+    pick (λ ys j. each_in f g levels h us ys j) (f u) refl (all_some (map f us)) refl e
   where
-    pick : (o : Option X) → f u ≡ o → (p : Option (List X)) → all_some (map f us) ≡ p
+    Rest : Type 0
+    Rest = (ys : List X) → all_some (map f us) ≡ Some ys → cells_below (Every ∷ levels) (vals us) ≡ joined_by g ys
+
+    pick : Rest → (o : Option X) → f u ≡ o → (p : Option (List X)) → all_some (map f us) ≡ p
         → all_some (o ∷ map f us) ≡ Some xs → cells_below (Every ∷ levels) (vals (u ∷ us)) ≡ joined_by g xs
-    pick None i p j k = absurd cc
-    pick (Some x) i None j k =
+    pick rest None i p j k = absurd cc
+    pick rest (Some x) i None j k =
         let no : option_map (λ ys. x ∷ ys) None ≡ Some xs = ap (option_map (λ ys. x ∷ ys)) (sym j) ∙ k in absurd cc
-    pick (Some x) i (Some ys) j k =
+    pick rest (Some x) i (Some ys) j k =
         let whole : option_map (λ zs. x ∷ zs) (Some ys) ≡ Some xs = ap (option_map (λ zs. x ∷ zs)) (sym j) ∙ k in
         let same : x ∷ ys ≡ xs = cc in
-        first_in levels u us ∙ ap₂ ◌++◌ (h u x i) (each_in f g levels h us ys j) ∙ ap (joined_by g) same
+        first_in levels u us ∙ ap₂ ◌++◌ (h u x i) (rest ys j) ∙ ap (joined_by g) same
 
 some_same : {X : Type 0} (us xs : List X) → some_of us ≡ Some xs → us ≡ xs
 some_same [] xs e = absurd cc
@@ -254,17 +258,18 @@ some_there (u ∷ us) xs e = let same : u ∷ us ≡ xs = cc in rw (← same) (o
 all_long : {X : Type 0} (f : WideValue → Option X) (us : List WideValue) (xs : List X)
     → all_some (map f us) ≡ Some xs → length xs ≡ length us
 all_long f [] xs e = let same : [] ≡ xs = cc in rw (← same) refl
-all_long f (u ∷ us) xs e = pick (f u) (all_some (map f us)) refl e
+all_long {X = X} f (u ∷ us) xs e = pick (λ ys j. all_long f us ys j) (f u) (all_some (map f us)) refl e
   where
-    pick : (o : Option X) (p : Option (List X)) → all_some (map f us) ≡ p → all_some (o ∷ map f us) ≡ Some xs
+    pick : ((ys : List X) → all_some (map f us) ≡ Some ys → length ys ≡ length us)
+        → (o : Option X) (p : Option (List X)) → all_some (map f us) ≡ p → all_some (o ∷ map f us) ≡ Some xs
         → length xs ≡ suc (length us)
-    pick None p j k = absurd cc
-    pick (Some x) None j k =
+    pick rest None p j k = absurd cc
+    pick rest (Some x) None j k =
         let no : option_map (λ ys. x ∷ ys) None ≡ Some xs = ap (option_map (λ ys. x ∷ ys)) (sym j) ∙ k in absurd cc
-    pick (Some x) (Some ys) j k =
+    pick rest (Some x) (Some ys) j k =
         let whole : option_map (λ zs. x ∷ zs) (Some ys) ≡ Some xs = ap (option_map (λ zs. x ∷ zs)) (sym j) ∙ k in
         let same : x ∷ ys ≡ xs = cc in
-        sym (ap length same) ∙ ap suc (all_long f us ys j)
+        sym (ap length same) ∙ ap suc (rest ys j)
 
 row_some : (v : WideValue) (row : List WideValue) → row_cells v ≡ Some row → 0 < length row
 row_some v row e =
@@ -275,17 +280,19 @@ row_some v row e =
 all_rows_some : (us : List WideValue) (rows : List (List WideValue)) → all_some (map row_cells us) ≡ Some rows
     → AreSome (map length rows)
 all_rows_some [] rows e = let same : [] ≡ rows = cc in subst (λ rs. AreSome (map length rs)) same tt
-all_rows_some (u ∷ us) rows e = pick (row_cells u) refl (all_some (map row_cells us)) refl e
+all_rows_some (u ∷ us) rows e =
+    pick (λ ys j. all_rows_some us ys j) (row_cells u) refl (all_some (map row_cells us)) refl e
   where
-    pick : (o : Option (List WideValue)) → row_cells u ≡ o → (p : Option (List (List WideValue)))
+    pick : ((ys : List (List WideValue)) → all_some (map row_cells us) ≡ Some ys → AreSome (map length ys))
+        → (o : Option (List WideValue)) → row_cells u ≡ o → (p : Option (List (List WideValue)))
         → all_some (map row_cells us) ≡ p → all_some (o ∷ map row_cells us) ≡ Some rows → AreSome (map length rows)
-    pick None i p j k = absurd cc
-    pick (Some x) i None j k =
+    pick rest None i p j k = absurd cc
+    pick rest (Some x) i None j k =
         let no : option_map (λ ys. x ∷ ys) None ≡ Some rows = ap (option_map (λ ys. x ∷ ys)) (sym j) ∙ k in absurd cc
-    pick (Some x) i (Some ys) j k =
+    pick rest (Some x) i (Some ys) j k =
         let whole : option_map (λ zs. x ∷ zs) (Some ys) ≡ Some rows = ap (option_map (λ zs. x ∷ zs)) (sym j) ∙ k in
         let same : x ∷ ys ≡ rows = cc in
-        subst (λ rs. AreSome (map length rs)) same ((row_some u x i, all_rows_some us ys j))
+        subst (λ rs. AreSome (map length rs)) same ((row_some u x i, rest ys j))
 
 rows_some : (v : WideValue) (rows : List (List WideValue)) → table_rows v ≡ Some rows → AreSome (map length rows)
 rows_some v rows e =
@@ -296,21 +303,23 @@ rows_some v rows e =
 abbrev Holds : Grid → List WideValue → Type 0
 Holds g cells = (map length g.sides ≡ map length g.rows) × (all_cells g.rows ≡ cells) × (AreSome (map length g.rows))
 
-lengths_from : (settings : List Setting) (k : ℕ) (rows : List (List WideValue))
-    → map length (map (λ row. row_sides settings row.0 (length row.1)) (enumerate_from k rows)) ≡ map length rows
-lengths_from settings k [] = refl
-lengths_from settings k (row ∷ rows) =
-    ap₂ ◌∷◌
-    (length-map (range_with_len 0 (length row)) (side_at settings k) ∙ length-range_with_len 0 (length row))
-    (lengths_from settings (suc k) rows)
+lengths_from : (f : ℕ → ℕ → List Side) → ((k n : ℕ) → length (f k n) ≡ n) → (k : ℕ) (rows : List (List WideValue))
+    → map length (map (λ row. f row.0 (length row.1)) (enumerate_from k rows)) ≡ map length rows
+lengths_from f h k [] = refl
+lengths_from f h k (row ∷ rows) = ap₂ ◌∷◌ (h k (length row)) (lengths_from f h (k + 1) rows)
 
 table_holds : (sets : List WideValue) (v : WideValue) (g : Grid) → table_grid sets v ≡ Some g
     → Holds g (in_value (Every ∷ (Every ∷ [])) v)
 table_holds sets v g e =
     let p = map_some (grid_with sets) (table_rows v) g e in
-    let settings : List Setting = settings_in (length p.0) (column_count p.0) sets in
-    subst (λ x. Holds x (in_value (Every ∷ (Every ∷ [])) v)) p.1.1
-    ((lengths_from settings 0 p.0, sym (rows_in v p.0 p.1.0), rows_some v p.0 p.1.0))
+    subst (λ x. Holds x (in_value (Every ∷ (Every ∷ [])) v)) p.1.1 (
+      lengths_from (row_sides (settings_in (length p.0) (column_count p.0) sets))
+          (λ k n.
+          length-map (range_with_len 0 n) (side_at (settings_in (length p.0) (column_count p.0) sets) k)
+          ∙ length-range_with_len 0 n) 0 p.0,
+      sym (rows_in v p.0 p.1.0),
+      rows_some v p.0 p.1.0,
+    )
 
 format_holds : (v : WideValue) (g : Grid) → format_grid v ≡ Some g
     → Holds g (cells_below (levels_of (also v none)) (also v none))
@@ -333,6 +342,7 @@ format_holds (made label vs at) g e = pick (bytes_eq label (codes "tformat")) e
           own.1 ∙ sym (last_in (Every ∷ (Every ∷ [])) (each_of vs) p.0 p.1.0)
               ∙ ap (cells_below (Final ∷ (Every ∷ (Every ∷ [])))) (vals_each vs)
               ∙ sym (append-nil (cells_below (Final ∷ (Every ∷ (Every ∷ []))) vs)),
+          own.2,
         )
     pick false h =
         let own = table_holds [] (made label vs at) g h in

@@ -4,6 +4,7 @@ mod Flatness
 mod Below
 mod FlatLoops
 mod RowsShown
+mod Columns
 mod Documents
 mod Planning
 mod ByRule

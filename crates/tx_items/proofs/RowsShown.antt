@@ -1,9 +1,11 @@
 -- What the rows of a table show, and their items.
-use Rattle.std.proofs.Common.{◌≡◌, ℕ, zero, suc, ◌+◌, ◌-◌, ◌<◌, ◌≤◌, max, true, false, not, List, [], ◌∷◌, ◌++◌, map, length}
+use Rattle.std.proofs.Common.{◌≡◌, ℕ, zero, suc, ◌+◌, ◌-◌, ◌<◌, ◌≤◌, max, Bool, true, false, not, cond, Option, Some, None, List, [], ◌∷◌, ◌++◌, map, length}
 use Rattle.std.proofs.Common.{take, drop, get_or, refl, sym, ap, ap₂, ◌∙◌, subst, arith, append_assoc, append-nil}
 use Rattle.std.specs.List.{list_any}
-use Rattle.std.proofs.lemmas.List.{drop_more, drop_all, take_all, length-drop}
-use Rattle.tx_origin.specs.Values.{WideValue, none, also, vals}
+use Rattle.std.proofs.lemmas.List.{drop_more, drop_all, take_all, length-drop, length-append, length-map}
+use Rattle.tx_origin.specs.Values.{WideValue, text, made, none, also, vals}
+use Rattle.tx_table.specs.declared.grids.Grid.{Grid}
+use Rattle.tx_table.specs.Grids.{grid_of}
 use Rattle.tx_table.specs.declared.settings.Side.{Side}
 use Rattle.tx_table.specs.declared.settings.Side.TheVariants.{Left}
 use Rattle.tx_table.specs.Columns.{wider, column_widths, left_pad, right_pad, row_pads, all_pads, across}
@@ -13,14 +15,16 @@ use Rattle.tx_items.specs.declared.drawing.Item.TheVariants.{Gap}
 use Rattle.tx_items.specs.declared.drawing.Paragraph.{Paragraph}
 use Rattle.tx_items.specs.Cells.{cells_across}
 use Rattle.tx_items.specs.Drawing.{paragraph}
-use Rattle.tx_items.specs.Tables.{is_cut, missing_gap, gap_before, cell_items, row_from, row_items, ShownRow}
-use Rattle.tx_items.specs.Tables.{row_widths, row_paragraphs, table_paragraphs}
-use Rattle.tx_items.specs.Flat.{is_flat}
+use Rattle.tx_items.specs.Tables.{missing_gap, gap_before, cell_items, row_from, row_items, ShownRow}
+use Rattle.tx_items.specs.Tables.{row_widths, row_paragraphs, table_paragraphs, levels_of}
+use Rattle.tx_items.specs.Flat.{is_table, is_flat, flat_below, shows_table}
 use Rattle.tx_items.specs.Shows.{ItemRun, empty, begun, run_of, beside, Form, inline, listed, Shown, AllShown, one_of}
 use Rattle.tx_items.specs.Shows.{both_shown, run_items, items_in, fits_cell, after_each, shown_rows, show, show_all}
+use Rattle.tx_items.specs.Shows.{run_ended, cells_fit, bad, rows_shown, tabular_shown, show_below}
 use Rattle.tx_items.specs.Running.{State, Adds, HasShown, HasCells, HasRows, all_cells, gaps_and_columns, padded_from}
-use Rattle.tx_items.proofs.Flatness.{items_of_run, fits_flat}
-use Rattle.tx_items.proofs.Below.{all_append, all_first, all_nothing, each_length}
+use Rattle.tx_items.specs.Running.{AddsParagraphs, table_shown}
+use Rattle.tx_items.proofs.Flatness.{items_of_run, fits_flat, fits_below}
+use Rattle.tx_items.proofs.Below.{all_append, all_first, all_nothing, each_length, below_all, grid_holds}
 
 pub first_at : {X : Type 0} (xs : List X) (i : ℕ) (x : X) → i < length xs → x ≡ get_or xs i x
     → drop i xs ≡ x ∷ drop (i + 1) xs
@@ -153,6 +157,7 @@ cell_taken v first items s u w flat h run attrs errors paragraphs gone =
     record {
       after = attrs ∙ h.after;
       errors = errors ∙ h.errors;
+      long = refl;
       shown = λ clean. (
         gone,
         paragraphs ∙ adds.1,
@@ -171,6 +176,7 @@ cells_both : (x y : AllShown) (s u w : State) (cs ds : List (List Item)) → Has
 cells_both x y s u w cs ds h k = record {
   after = k.after;
   errors = k.errors ∙ ap (λ es. es ++ y.errors) h.errors ∙ append_assoc s.errors x.errors y.errors;
+  long = length-append cs ds ∙ ap₂ ◌+◌ h.long k.long ∙ sym (length-append x.each y.each);
   shown = λ clean.
       let first = h.shown clean in
       let second = k.shown first.0 in (
@@ -185,7 +191,12 @@ pub cells_done : (xs : List WideValue) (i : ℕ) (s : State) → length xs ≤ i
 cells_done xs i s past =
     let P : AllShown → Type 0 = λ x. HasCells x s s [] in
     subst P (sym (ap (λ ys. show_all false s.attrs (vals ys)) (drop_all i xs past) ∙ all_nothing s.attrs))
-    (record { after = refl; errors = sym (append-nil s.errors); shown = λ clean. (clean, refl, refl) })
+    (record {
+      after = refl;
+      errors = sym (append-nil s.errors);
+      long = refl;
+      shown = λ clean. (clean, refl, refl);
+    })
 
 pub cells_more : (xs : List WideValue) (i : ℕ) (v : WideValue) (s u w : State) (c : List Item)
     (more : List (List Item)) → i < length xs → v ≡ get_or xs i v → HasCells (one_of (show s.attrs v)) s u (c ∷ [])
@@ -245,6 +256,7 @@ rows_cons row rows s u w cells more h k =
       errors = k.errors ∙ ap (λ es. es ++ (Y u.attrs).errors) h.errors
           ∙ ap (λ a. s.errors ++ x.errors ++ (Y a).errors) h.after
           ∙ append_assoc s.errors x.errors y.errors ∙ sym (ap (λ z. s.errors ++ z.errors) whole);
+      long = ap₂ ◌∷◌ (h.long ∙ each_length s.attrs row) k.long;
       are = λ clean.
           let first = h.shown clean in
           let second = k.are first.0 in (
@@ -271,6 +283,7 @@ unfolding show_all
 rows_nothing s = record {
   after = refl;
   errors = sym (append-nil s.errors);
+  long = refl;
   are = λ clean. (clean, refl, refl);
 }
 
@@ -280,3 +293,147 @@ rows_done rows i s past = subst (λ rs. HasRows rs s s []) (sym (drop_all i rows
 pub rows_pushed : (rows : List (List WideValue)) (s w : State) (shown more : List ShownRow) (row : ShownRow)
     → HasRows rows s w (shown ++ row ∷ more) → HasRows rows s w (shown ++ row ∷ [] ++ more)
 rows_pushed rows s w shown more row h = subst (HasRows rows s w) (sym (append_assoc shown (row ∷ []) more)) h
+
+-- ---- rows as paragraphs
+
+pub drop_first : {X : Type 0} (xs : List X) (i : ℕ) (x : X) (rest : List X) → drop i xs ≡ x ∷ rest
+    → (i < length xs) × (x ≡ get_or xs i x) × (rest ≡ drop (i + 1) xs)
+drop_first [] zero x rest e = absurd cc
+drop_first [] (suc i) x rest e = absurd cc
+drop_first (y ∷ xs) zero x rest e =
+    let first : y ≡ x = cc in
+    let others : xs ≡ rest = cc in
+    (omega arith, sym first, sym others)
+drop_first (y ∷ xs) (suc i) x rest e =
+    let found = drop_first xs i x rest e in
+    let place : suc (i + 1) ≡ suc i + 1 = omega arith in
+    (omega (arith, found.0), found.1, found.2 ∙ ap (λ n. drop n (y ∷ xs)) place)
+
+widths_at : (rows : List ShownRow) (at : ℕ) (row : ShownRow) → at < length rows → row ≡ get_or rows at row
+    → map cells_across row.1 ≡ get_or (row_widths rows) at (map cells_across row.1)
+widths_at [] at row there is = absurd (omega arith)
+widths_at (r ∷ rows) zero row there is = ap (λ x. map cells_across x.1) is
+widths_at (r ∷ rows) (suc at) row there is = widths_at rows at row (omega arith) is
+
+sides_at : (rows : List ShownRow) (sides : List (List Side)) (at : ℕ) (row : ShownRow)
+    → map (λ r. length r.1) rows ≡ map length sides → at < length rows → row ≡ get_or rows at row
+    → length (get_or sides at []) ≡ length row.1
+sides_at [] sides at row same there is = absurd (omega arith)
+sides_at (r ∷ rows) [] at row same there is = absurd cc
+sides_at (r ∷ rows) (ss ∷ sides) zero row same there is =
+    let first : length r.1 ≡ length ss = cc in sym first ∙ ap (λ x. length x.1) (sym is)
+sides_at (r ∷ rows) (ss ∷ sides) (suc at) row same there is =
+    let others : map (λ r. length r.1) rows ≡ map length sides = cc in
+    sides_at rows sides at row others (omega arith) is
+
+pub as_many : (rows : List ShownRow) (sides : List (List Side)) → map (λ r. length r.1) rows ≡ map length sides
+    → length sides ≡ length rows
+as_many rows sides same = sym (length-map sides length) ∙ ap length (sym same) ∙ length-map rows (λ r. length r.1)
+
+-- what a row is given by the plan
+pub record RowFits (columns left right : List ℕ) (sides : List Side) (cells : List (List Item)) : Type 0 where
+  pub columns_there : length cells ≤ length columns
+  pub left_there : length left ≡ length cells
+  pub right_there : length right ≡ length cells
+  pub padded : padded_from 0 columns left right cells ≡ row_items columns sides cells
+
+pub row_fits : (rows : List ShownRow) (sides : List (List Side)) (at : ℕ) (row : ShownRow) (left right : List ℕ)
+    → map (λ r. length r.1) rows ≡ map length sides → at < length rows → row ≡ get_or rows at row
+    → left ≡ get_or (all_pads left_pad (column_widths (row_widths rows)) sides (row_widths rows)) at left
+    → right ≡ get_or (all_pads right_pad (column_widths (row_widths rows)) sides (row_widths rows)) at right
+    → RowFits (column_widths (row_widths rows)) left right (get_or sides at []) row.1
+row_fits rows sides at row left right same there is isl isr =
+    let widths : List (List ℕ) = row_widths rows in
+    let columns : List ℕ = column_widths widths in
+    let own : List ℕ = map cells_across row.1 in
+    let ss : List Side = get_or sides at [] in
+    let long : length widths ≡ length rows = length-map rows (λ r. map cells_across r.1) in
+    let within : at < length widths = omega (arith, there, long) in
+    let many : length sides ≡ length widths = as_many rows sides same ∙ sym long in
+    let iss : ss ≡ get_or sides at ss = side_there sides at (omega (arith, within, many)) in
+    let isw : own ≡ get_or widths at own = widths_at rows at row there is in
+    let l : left ≡ row_pads left_pad columns ss own =
+    isl ∙ all_pads_at left_pad columns sides widths at ss own left within many iss isw in
+    let r : right ≡ row_pads right_pad columns ss own =
+    isr ∙ all_pads_at right_pad columns sides widths at ss own right within many iss isw in
+    let cells : length own ≡ length row.1 = length-map row.1 cells_across in
+    let wide : length own ≤ length columns = columns_long widths at own within isw in
+    let sided : length ss ≡ length row.1 = sides_at rows sides at row same there is in
+    let fit : length ss ≡ length own = sided ∙ sym cells in
+    record {
+      columns_there = omega (arith, cells, wide);
+      left_there = ap length l ∙ pads_length left_pad columns ss own wide fit ∙ cells;
+      right_there = ap length r ∙ pads_length right_pad columns ss own wide fit ∙ cells;
+      padded = ap₂ (λ x y. padded_from 0 columns x y row.1) l r
+          ∙ padded_is 0 columns ss row.1 (omega (arith, cells, wide)) sided;
+    }
+  where
+    side_there : (xs : List (List Side)) (i : ℕ) → i < length xs → get_or xs i [] ≡ get_or xs i (get_or xs i [])
+    side_there [] i h = absurd (omega arith)
+    side_there (x ∷ xs) zero h = refl
+    side_there (x ∷ xs) (suc i) h = side_there xs i (omega arith)
+
+pub row_pushed : (columns : List ℕ) (sides : List (List Side)) (at : ℕ) (row : ShownRow) (rest : List ShownRow)
+    (ps whole new : List Paragraph) (items : List Item) → at < length sides
+    → items ≡ row_items columns (get_or sides at []) row.1
+    → ps ++ row_paragraphs columns (drop at sides) (row ∷ rest) ≡ whole → new ≡ ps ++ paragraph items row.0 ∷ []
+    → new ++ row_paragraphs columns (drop (at + 1) sides) rest ≡ whole
+row_pushed columns sides at row rest ps whole new items there is so_far e =
+    let more : List Paragraph = row_paragraphs columns (drop (at + 1) sides) rest in
+    ap (λ q. q ++ more) (e ∙ ap (λ xs. ps ++ paragraph xs row.0 ∷ []) is)
+    ∙ append_assoc ps (paragraph (row_items columns (get_or sides at []) row.1) row.0 ∷ []) more
+    ∙ ap (λ ss. ps ++ row_paragraphs columns ss (row ∷ rest)) (sym (drop_more sides at [] there)) ∙ so_far
+
+-- ---- `tabular`
+
+pub shown_bad : (a : Attrs) (label : List ℕ) (v : WideValue) → shows_table v ≡ false
+    → table_shown a label v ≡ bad a label
+unfolding shows_table
+shown_bad a label (text words at) h = refl
+shown_bad a label (made l vs at) h =
+    pick (grid_of (made l vs at)) (flat_below (levels_of vs) vs) h (fits_below (levels_of vs) a vs)
+  where
+    pick : (o : Option Grid) (flat : Bool) → is_table o flat ≡ false
+        → cells_fit (show_below (levels_of vs) a vs).each ≡ flat
+        → tabular_shown a label o (show_below (levels_of vs) a vs) ≡ bad a label
+    pick None flat k f = refl
+    pick (Some g) flat k f =
+        ap (λ b. cond b (rows_shown a g.sides (show_below (levels_of vs) a vs)) (bad a label)) (f ∙ k)
+
+shown_rows_of : (a : Attrs) (label : List ℕ) (v : WideValue) (g : Grid) → Some g ≡ grid_of v → shows_table v ≡ true
+    → table_shown a label v ≡ rows_shown a g.sides (show_all false a (vals (all_cells g.rows)))
+unfolding shows_table
+shown_rows_of a label (text words at) g e h = absurd cc
+shown_rows_of a label (made l vs at) g e h =
+    let cells : AllShown = show_below (levels_of vs) a vs in
+    let flat : flat_below (levels_of vs) vs ≡ true =
+    ap (λ o. is_table o (flat_below (levels_of vs) vs)) e ∙ h in
+    ap (λ o. tabular_shown a label o cells) (sym e)
+    ∙ ap (λ b. cond b (rows_shown a g.sides cells) (bad a label)) (fits_below (levels_of vs) a vs ∙ flat)
+    ∙ ap (rows_shown a g.sides) (below_all (levels_of vs) a vs
+    ∙ ap (λ us. show_all false a (vals us)) (sym ((grid_holds l vs at g (sym e)).1)))
+
+sides_long : (v : WideValue) (g : Grid) → Some g ≡ grid_of v → map length g.sides ≡ map length g.rows
+sides_long (text words at) g e = absurd cc
+sides_long (made l vs at) g e = (grid_holds l vs at g (sym e)).0
+
+pub rows_long : (v : WideValue) (g : Grid) (s u : State) (shown : List ShownRow) → Some g ≡ grid_of v
+    → HasRows g.rows s u shown → map (λ r. length r.1) shown ≡ map length g.sides
+rows_long v g s u shown e h = h.long ∙ sym (sides_long v g e)
+
+pub table_added : (label : List ℕ) (v : WideValue) (g : Grid) (s u w : State) (shown : List ShownRow)
+    → Some g ≡ grid_of v → shows_table v ≡ true → HasRows g.rows s u shown
+    → AddsParagraphs (table_paragraphs g.sides shown) u w → HasShown (table_shown s.attrs label v) s w
+table_added label v g s u w shown e whole h k =
+    let all : AllShown = show_all false s.attrs (vals (all_cells g.rows)) in
+    subst (λ x. HasShown x s w) (sym (shown_rows_of s.attrs label v g e whole))
+    (record {
+      after = k.attrs ∙ h.after;
+      errors = k.errors ∙ h.errors;
+      adds = λ clean.
+          let are = h.are clean in
+          ap₂ (λ ps q. ps ++ run_ended q) k.paragraphs (k.run ∙ are.0)
+          ∙ append-nil (u.paragraphs ++ table_paragraphs g.sides shown)
+          ∙ ap₂ (λ ps rs. ps ++ table_paragraphs g.sides rs) are.1
+          (are.2 ∙ ap (λ ns. shown_rows ns s.attrs all.each) (sym (sides_long v g e)));
+    })

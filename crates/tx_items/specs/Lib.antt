@@ -6,6 +6,7 @@ pub mod LookView
 pub mod Drawing
 pub mod Cells
 pub mod Tables
+pub mod RowPlaces
 pub mod Rules
 pub mod Flat
 pub mod Rows

@@ -145,6 +145,7 @@ length_alone (also v (also w vs)) = None
 pub record HasCells (all : AllShown) (s u : State) (cells : List (List Item)) : Type 0 where
   pub after : u.attrs ≡ all.after
   pub errors : u.errors ≡ s.errors ++ all.errors
+  pub long : length cells ≡ length all.each
   pub shown : s.run ≡ empty
       → (u.run ≡ empty) × (u.paragraphs ≡ s.paragraphs) × (cells ≡ map (λ f. items_in f.0) all.each)
 
@@ -156,6 +157,7 @@ all_cells (row ∷ rows) = row ++ all_cells rows
 pub record HasRows (rows : List (List WideValue)) (s u : State) (shown : List ShownRow) : Type 0 where
   pub after : u.attrs ≡ (show_all false s.attrs (vals (all_cells rows))).after
   pub errors : u.errors ≡ s.errors ++ (show_all false s.attrs (vals (all_cells rows))).errors
+  pub long : map (λ r. length r.1) shown ≡ map length rows
   pub are : s.run ≡ empty
       → (u.run ≡ empty) × (u.paragraphs ≡ s.paragraphs)
       × (shown ≡ shown_rows (map length rows) s.attrs (show_all false s.attrs (vals (all_cells rows))).each)

@@ -479,7 +479,8 @@ impl Showing {
     {
         let mut row = Vec::with_capacity(alloc, cells.len())?;
         for cell in cells {
-            row.push(self.cell(alloc, cell)?)?;
+            let items = self.cell(alloc, cell)?;
+            row.push(items)?;
         }
         Ok(RowCells::new(row))
     }

@@ -10,7 +10,6 @@ use Rattle.tx_origin.specs.Values.{WideValue, WideValues, text, made, none, also
 use Rattle.tx_origin.specs.Under.{value_under, values_under}
 use Rattle.tx_table.specs.declared.grids.Grid.{Grid}
 use Rattle.tx_table.specs.declared.settings.Side.{Side}
-use Rattle.tx_table.specs.declared.settings.Setting.{Setting}
 use Rattle.tx_table.specs.Settings.{parts_if, number_in, span_of, side_in, side_named, is_text, setting_by, setting_from}
 use Rattle.tx_table.specs.Settings.{setting_of, row_sides, sides_of, settings_in}
 use Rattle.tx_table.specs.Grids.{all_some, some_of, one_of, cell_value, some_parts, row_cells, table_rows}
@@ -24,16 +23,16 @@ all_some_is : {X : Type 0} (o : Option X) (os : List (Option X)) → all_some (o
 all_some_is None os = refl
 all_some_is (Some x) os = refl
 
--- a setting before others, or none
-abbrev filtered : Option Setting → List Setting → List Setting
-filtered None ss = ss
-filtered (Some s) ss = s ∷ ss
+-- one before others, or none
+abbrev filtered : {X : Type 0} → Option X → List X → List X
+filtered None xs = xs
+filtered (Some x) xs = x ∷ xs
 
-filter_first : (f : WideValue → Option Setting) (v : WideValue) (vs : List WideValue)
+filter_first : {X : Type 0} (f : WideValue → Option X) (v : WideValue) (vs : List WideValue)
     → filter_map f (v ∷ vs) ≡ filtered (f v) (filter_map f vs)
 filter_first f v vs = pick (f v) refl
   where
-    pick : (o : Option Setting) → f v ≡ o → filter_map f (v ∷ vs) ≡ filtered o (filter_map f vs)
+    pick : (o : Option X) → f v ≡ o → filter_map f (v ∷ vs) ≡ filtered o (filter_map f vs)
     pick None e = rw e refl
     pick (Some s) e = rw e refl
 
@@ -173,13 +172,12 @@ module _ (base : List ℕ) where
   count_under [] = refl
   count_under (row ∷ rows) = ap₂ max (length-map row Under) (count_under rows)
 
-  sides_under : (settings : List Setting) (k : ℕ) (rows : List (List WideValue))
-      → map (λ row. row_sides settings row.0 (length row.1)) (enumerate_from k (map (map Under) rows))
-      ≡ map (λ row. row_sides settings row.0 (length row.1)) (enumerate_from k rows)
-  sides_under settings k [] = refl
-  sides_under settings k (row ∷ rows) =
-      ap₂ {C = List (List Side)} (λ n ss. row_sides settings k n ∷ ss) (length-map row Under)
-      (sides_under settings (suc k) rows)
+  sides_under : (f : ℕ → ℕ → List Side) (k : ℕ) (rows : List (List WideValue))
+      → map (λ row. f row.0 (length row.1)) (enumerate_from k (map (map Under) rows))
+      ≡ map (λ row. f row.0 (length row.1)) (enumerate_from k rows)
+  sides_under f k [] = refl
+  sides_under f k (row ∷ rows) =
+      ap₂ {C = List (List Side)} (λ n ss. f k n ∷ ss) (length-map row Under) (sides_under f (k + 1) rows)
 
   abbrev sides_in : Option Grid → Option (List (List Side))
   sides_in o = option_map (λ g. g.sides) o
@@ -190,7 +188,7 @@ module _ (base : List ℕ) where
       ap₂ (λ n m. sides_of (settings_in n m (map Under sets)) (map (map Under) rows)) (length-map rows (map Under))
       (count_under rows)
       ∙ ap (λ ss. sides_of ss (map (map Under) rows)) (settings_under (length rows) (column_count rows) sets)
-      ∙ sides_under (settings_in (length rows) (column_count rows) sets) 0 rows
+      ∙ sides_under (row_sides (settings_in (length rows) (column_count rows) sets)) 0 rows
 
   table_under : (sets : List WideValue) (v : WideValue)
       → sides_in (table_grid (map Under sets) (Under v)) ≡ sides_in (table_grid sets v)
