@@ -221,6 +221,14 @@ table_is_flat v p g is list e = whole_table v g e ∙ pick (shows_table v) (list
     pick true h = refl
     pick false h = absurd cc
 
+pub table_there : (v : WideValue) (p : WideTree) → p ≡ table_plan (shows_table v) → true ≡ not (is_leaf p)
+    → shows_table v ≡ true
+table_there v p is list = pick (shows_table v) (list ∙ ap (λ q. not (is_leaf q)) is)
+  where
+    pick : (b : Bool) → true ≡ not (is_leaf (table_plan b)) → b ≡ true
+    pick true h = refl
+    pick false h = absurd cc
+
 pub table_not : (v : WideValue) (p : WideTree) → p ≡ table_plan (shows_table v) → false ≡ not (is_leaf p)
     → shows_table v ≡ false
 table_not v p is list = pick (shows_table v) (list ∙ ap (λ q. not (is_leaf q)) is)

@@ -6,9 +6,10 @@ use Rattle.std.proofs.lemmas.List.{drop_more, drop_all, take_all, length-drop, l
 use Rattle.tx_origin.specs.Values.{WideValue, text, made, none, also, vals}
 use Rattle.tx_table.specs.declared.grids.Grid.{Grid}
 use Rattle.tx_table.specs.Grids.{grid_of}
+use Rattle.tx_table.specs.declared.plans.Plan.{Plan}
 use Rattle.tx_table.specs.declared.settings.Side.{Side}
 use Rattle.tx_table.specs.declared.settings.Side.TheVariants.{Left}
-use Rattle.tx_table.specs.Columns.{wider, column_widths, left_pad, right_pad, row_pads, all_pads, across}
+use Rattle.tx_table.specs.Columns.{wider, column_widths, left_pad, right_pad, row_pads, all_pads, plan_of, across}
 use Rattle.tx_items.specs.declared.attributes.Attrs.{Attrs}
 use Rattle.tx_items.specs.declared.drawing.Item.{Item}
 use Rattle.tx_items.specs.declared.drawing.Item.TheVariants.{Gap}
@@ -54,15 +55,19 @@ pub ruleset columns = (gaps_more, missing_all, missing_none)
 -- ---- the items of a row
 
 pub padded_next : (at : ℕ) (cs ls rs : List ℕ) (x : List Item) (rest : List (List Item)) (l r : ℕ) → at < length cs
-    → at < length ls → at < length rs → l ≡ get_or ls at l → r ≡ get_or rs at r
+    → at < length ls → at < length rs → l ≡ get_or ls at 0 → r ≡ get_or rs at 0
     → padded_from at (drop at cs) (drop at ls) (drop at rs) (x ∷ rest)
     ≡ gap_before at ++ (Gap l ∷ (x ++ Gap r ∷ []))
     ++ padded_from (at + 1) (drop (at + 1) cs) (drop (at + 1) ls) (drop (at + 1) rs) rest
 padded_next at cs ls rs x rest l r a b c isl isr =
     let n : ℕ = get_or cs at 0 in
+    let left : drop at ls ≡ l ∷ drop (at + 1) ls =
+    drop_more ls at 0 b ∙ ap (λ m. m ∷ drop (at + 1) ls) (sym isl) in
+    let right : drop at rs ≡ r ∷ drop (at + 1) rs =
+    drop_more rs at 0 c ∙ ap (λ m. m ∷ drop (at + 1) rs) (sym isr) in
     ap (λ ns. padded_from at ns (drop at ls) (drop at rs) (x ∷ rest)) (drop_more cs at 0 a)
-    ∙ ap (λ ms. padded_from at (n ∷ drop (at + 1) cs) ms (drop at rs) (x ∷ rest)) (first_at ls at l b isl)
-    ∙ ap (λ ms. padded_from at (n ∷ drop (at + 1) cs) (l ∷ drop (at + 1) ls) ms (x ∷ rest)) (first_at rs at r c isr)
+    ∙ ap (λ ms. padded_from at (n ∷ drop (at + 1) cs) ms (drop at rs) (x ∷ rest)) left
+    ∙ ap (λ ms. padded_from at (n ∷ drop (at + 1) cs) (l ∷ drop (at + 1) ls) ms (x ∷ rest)) right
 
 -- a cell put behind items, piece by piece
 regroup : (i g x p : List Item) (a b : Item)
@@ -74,8 +79,8 @@ regroup i g x p a b =
     ∙ append_assoc i (g ++ (a ∷ (x ++ b ∷ []))) p
 
 pub padded_pushed : (at : ℕ) (cs ls rs : List ℕ) (x : List Item) (rest : List (List Item)) (l r : ℕ)
-    (items whole : List Item) → at < length cs → at < length ls → at < length rs → l ≡ get_or ls at l
-    → r ≡ get_or rs at r → items ++ padded_from at (drop at cs) (drop at ls) (drop at rs) (x ∷ rest) ≡ whole
+    (items whole : List Item) → at < length cs → at < length ls → at < length rs → l ≡ get_or ls at 0
+    → r ≡ get_or rs at 0 → items ++ padded_from at (drop at cs) (drop at ls) (drop at rs) (x ∷ rest) ≡ whole
     → (i1 i2 i3 i4 : List Item) → i1 ≡ items ++ gap_before at → i2 ≡ i1 ++ Gap l ∷ [] → i3 ≡ i2 ++ x
     → i4 ≡ i3 ++ Gap r ∷ []
     → i4 ++ padded_from (at + 1) (drop (at + 1) cs) (drop (at + 1) ls) (drop (at + 1) rs) rest ≡ whole
@@ -212,9 +217,14 @@ cells_more xs i v s u w c more there is one rest =
     (c ∷ []) more one (subst Q one.after rest))
 
 -- the same behind cells that stand already
-pub cells_pushed : (all : AllShown) (s w : State) (row more : List (List Item)) (c : List Item)
-    → HasCells all s w (row ++ c ∷ more) → HasCells all s w (row ++ c ∷ [] ++ more)
-cells_pushed all s w row more c h = subst (HasCells all s w) (sym (append_assoc row (c ∷ []) more)) h
+pub cells_pushed : (all : AllShown) (s w : State) (row new more : List (List Item)) (c : List Item)
+    → HasCells all s w (row ++ c ∷ more) → new ≡ row ++ c ∷ [] → HasCells all s w (new ++ more)
+cells_pushed all s w row new more c h e =
+    subst (HasCells all s w) (sym (ap (λ xs. xs ++ more) e ∙ append_assoc row (c ∷ []) more)) h
+
+pub cells_whole : (all : AllShown) (s w : State) (row new : List (List Item)) → HasCells all s w (row ++ [])
+    → new ≡ row → HasCells all s w new
+cells_whole all s w row new h e = subst (HasCells all s w) (append-nil row ∙ sym e) h
 
 -- ---- what rows show
 
@@ -290,9 +300,14 @@ rows_nothing s = record {
 pub rows_done : (rows : List (List WideValue)) (i : ℕ) (s : State) → length rows ≤ i → HasRows (drop i rows) s s []
 rows_done rows i s past = subst (λ rs. HasRows rs s s []) (sym (drop_all i rows past)) (rows_nothing s)
 
-pub rows_pushed : (rows : List (List WideValue)) (s w : State) (shown more : List ShownRow) (row : ShownRow)
-    → HasRows rows s w (shown ++ row ∷ more) → HasRows rows s w (shown ++ row ∷ [] ++ more)
-rows_pushed rows s w shown more row h = subst (HasRows rows s w) (sym (append_assoc shown (row ∷ []) more)) h
+pub rows_pushed : (rows : List (List WideValue)) (s w : State) (shown new more : List ShownRow) (row : ShownRow)
+    → HasRows rows s w (shown ++ row ∷ more) → new ≡ shown ++ row ∷ [] → HasRows rows s w (new ++ more)
+rows_pushed rows s w shown new more row h e =
+    subst (HasRows rows s w) (sym (ap (λ xs. xs ++ more) e ∙ append_assoc shown (row ∷ []) more)) h
+
+pub rows_whole : (rows : List (List WideValue)) (s w : State) (shown : List ShownRow) → HasRows rows s w (shown ++ [])
+    → HasRows rows s w shown
+rows_whole rows s w shown h = subst (HasRows rows s w) (append-nil shown) h
 
 -- ---- rows as paragraphs
 
@@ -372,6 +387,32 @@ row_fits rows sides at row left right same there is isl isr =
     side_there [] i h = absurd (omega arith)
     side_there (x ∷ xs) zero h = refl
     side_there (x ∷ xs) (suc i) h = side_there xs i (omega arith)
+
+-- the same by the plan of the table
+pub pads_there : (rows : List ShownRow) (sides : List (List Side)) (widths : List (List ℕ)) (plan : Plan) (at : ℕ)
+    (row : ShownRow) (rest : List ShownRow) → map (λ r. length r.1) rows ≡ map length sides → widths ≡ row_widths rows
+    → plan ≡ plan_of widths sides → drop at rows ≡ row ∷ rest
+    → (at < length plan.left) × (at < length plan.right) × (at < length sides)
+pads_there rows sides widths plan at row rest same w p d =
+    let found = drop_first rows at row rest d in
+    let long : length widths ≡ length rows = ap length w ∙ length-map rows (λ r. map cells_across r.1) in
+    let many : length sides ≡ length widths = as_many rows sides same ∙ sym long in
+    let left : length plan.left ≡ length widths =
+    ap (λ x. length x.left) p ∙ all_pads_length left_pad (column_widths widths) sides widths many in
+    let right : length plan.right ≡ length widths =
+    ap (λ x. length x.right) p ∙ all_pads_length right_pad (column_widths widths) sides widths many in
+    (omega (arith, found.0, long, left), omega (arith, found.0, long, right), omega (arith, found.0, long, many))
+
+pub plan_fits : (rows : List ShownRow) (sides : List (List Side)) (widths : List (List ℕ)) (plan : Plan) (at : ℕ)
+    (row : ShownRow) (rest : List ShownRow) (l r : List ℕ) → map (λ r. length r.1) rows ≡ map length sides
+    → widths ≡ row_widths rows → plan ≡ plan_of widths sides → drop at rows ≡ row ∷ rest → l ≡ get_or plan.left at l
+    → r ≡ get_or plan.right at r → RowFits plan.columns l r (get_or sides at []) row.1
+plan_fits rows sides widths plan at row rest l r same w p d isl isr =
+    let found = drop_first rows at row rest d in
+    let is : plan ≡ plan_of (row_widths rows) sides = p ∙ ap (λ ws. plan_of ws sides) w in
+    subst (λ x. RowFits x.columns l r (get_or sides at []) row.1) (sym is)
+    (row_fits rows sides at row l r same found.0 found.1 (isl ∙ ap (λ x. get_or x.left at l) is)
+    (isr ∙ ap (λ x. get_or x.right at r) is))
 
 pub row_pushed : (columns : List ℕ) (sides : List (List Side)) (at : ℕ) (row : ShownRow) (rest : List ShownRow)
     (ps whole new : List Paragraph) (items : List Item) → at < length sides

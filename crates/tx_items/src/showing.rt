@@ -549,8 +549,10 @@ impl Showing {
         let Some(grid) = grid_of(alloc, value)? else {
             return self.bad(alloc, label);
         };
-        let rows = self.rows(alloc, grid.rows.all())?;
-        self.add_rows(alloc, rows, grid.sides.all())
+        let cells = grid.rows.all();
+        let sides = grid.sides.all();
+        let rows = self.rows(alloc, cells)?;
+        self.add_rows(alloc, rows, sides)
     }
 
     // Ends what a unit shows, as a list or in a line.
