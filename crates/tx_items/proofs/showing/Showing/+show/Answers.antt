@@ -1,16 +1,20 @@
-use Rattle.std.proofs.Common.{sym, ap, ◌∙◌, true, subst}
+use Rattle.std.proofs.Common.{refl, sym, ap, ◌∙◌, true, subst, List, [], ◌∷◌, ◌++◌, map, length}
 use Rattle.std.proofs.lemmas.Result.{on_ok_weaker}
 use Rattle.tx_origin.specs.Values.{vals, value_parts}
 use Rattle.tx_items.specs.declared.attributes.Attrs.{Attrs}
 use Rattle.tx_items.specs.Rules.{rule_of}
 use Rattle.tx_items.specs.Rules as rules
-use Rattle.tx_items.specs.Shows.{Shown, show, show_all, with_shown}
-use Rattle.tx_items.specs.Running.{state_of, HasShown, HasRun}
+use Rattle.tx_items.specs.declared.drawing.Item.{Item}
+use Rattle.tx_items.specs.Shows.{Shown, show, show_all, with_shown, one_of, run_of}
+use Rattle.tx_items.specs.Running.{state_of, HasShown, HasRun, HasCells}
 use Rattle.tx_items.proofs.Runs.{part_inline, part_listed, run_joined, run_nothing, run_tag, each_more, each_done}
 use Rattle.tx_items.proofs.Documents.{par_inline, par_listed, pars_document, pars_next, pars_done}
 use Rattle.tx_items.proofs.Planning.{inline_by_plan, list_by_plan}
 use Rattle.tx_items.proofs.ByRule.{show_text, show_row, copied_origin}
 use Rattle.tx_items.proofs.Pairs.{with_even, with_whole}
+use Rattle.tx_items.proofs.FlatLoops.{table_not, table_there}
+use Rattle.tx_items.proofs.RowsShown.{cell_taken, cells_pushed, cells_more, cells_done, cells_whole, rows_pushed}
+use Rattle.tx_items.proofs.RowsShown.{rows_more, rows_done, rows_whole, shown_bad, rows_long, table_added}
 use Rattle.tx_items.proofs.showing.Showing.+show.Goals as goal
 
 pub part-returns-then-not-is_list : goal.part-returns-then-not-is_list
@@ -132,6 +136,13 @@ show-returns-in-Error t c =
     (c.in-Error.ensures ∙ ap rule_of c.bytes.ensures.bytes) in
     on_ok_weaker c.error.result (λ h. subst P (sym row) h) c.error.ensures
 
+pub show-returns-in-Tabular : goal.show-returns-in-Tabular
+show-returns-in-Tabular t c =
+    let P : Shown → Type 0 = λ x. HasShown x (state_of c.args.self.now) (state_of c.tabular.new.self) in
+    let row = show_row c.args.self.now.attrs c.args.value.now _ rules.Tabular c.in-Some-label.ensures
+    (c.in-Tabular.ensures ∙ ap rule_of c.bytes.ensures.bytes) in
+    on_ok_weaker c.tabular.result (λ h. subst P (sym row) h) c.tabular.ensures
+
 pub show-returns-in-Other : goal.show-returns-in-Other
 show-returns-in-Other t c =
     let P : Shown → Type 0 = λ x. HasShown x (state_of c.args.self.now) (state_of c.tag.new.self) in
@@ -173,3 +184,72 @@ show-returns-in-Silent t c =
     let row = show_row c.args.self.now.attrs c.args.value.now _ rules.Silent c.in-Some-label.ensures
     (c.in-Silent.ensures ∙ ap rule_of c.bytes.ensures.bytes) in
     subst P (sym row) (run_nothing (state_of c.args.self.now))
+
+pub cell-returns : goal.cell-returns
+cell-returns t c =
+    let P : List Item → Type 0 = λ xs.
+    HasCells (one_of (show c.args.self.now.attrs c.args.value.now)) (state_of c.args.self.now) (state_of record {
+      attrs = c.show-2.new.self.attrs;
+      first = c.show-2.new.self.first;
+      run = c.replace.new.dest;
+      paragraphs = c.show-2.new.self.paragraphs;
+      errors = c.show-2.new.self.errors;
+    }) (xs ∷ []) in
+    let gone = ap (λ v. run_of c.show-2.new.self.first v.items) c.replace.ensures.after
+    ∙ ap (run_of c.show-2.new.self.first) c.new.ensures.items in
+    subst P (sym (c.new-2.ensures ∙ ap (λ v. v.items) c.replace.ensures.value))
+    (cell_taken c.args.value.now c.show-2.new.self.first c.show-2.new.self.run.items (state_of c.args.self.now)
+    (state_of c.show-2.new.self) _ c.requires c.in_ok-show.ensures refl refl refl refl gone)
+
+pub row-loop-cell-preserved : goal.row-loop-cell-preserved
+row-loop-cell-preserved t c = λ w more rest.
+    cells_pushed _ _ _ c.loop-cell.row.items c.push.new.self.items more c.in_ok-items.items
+    (c.loop-cell.invariant w (c.in_ok-items.items ∷ more)
+    (cells_more c.args.cells.now c.loop-cell.cell-index c.cell-item.result (state_of c.loop-cell.self)
+    (state_of c.cell.new.self) w c.in_ok-items.items more c.loop-cell-test.true c.cell-item.is c.in_ok-items.ensures
+    rest)) c.in_ok-push.ensures.items
+
+pub row-returns : goal.row-returns
+row-returns t c =
+    cells_whole _ _ _ c.loop-cell.row.items c.new.result
+    (c.loop-cell.invariant (state_of c.loop-cell.self) []
+    (cells_done c.args.cells.now c.loop-cell.cell-index (state_of c.loop-cell.self) c.loop-cell-test.false))
+    c.new.ensures
+
+pub rows-loop-row-preserved : goal.rows-loop-row-preserved
+rows-loop-row-preserved t c = λ w more rest.
+    let cells = rw c.all.ensures at c.in_ok-cells.ensures in
+    rows_pushed _ _ _ c.loop-row.shown.items c.push.new.self.items more (c.loop-row.self.attrs, c.in_ok-cells.cells)
+    (c.loop-row.invariant w ((c.loop-row.self.attrs, c.in_ok-cells.cells) ∷ more)
+    (rows_more c.args.rows.now c.loop-row.row-index c.row-item.result (state_of c.loop-row.self)
+    (state_of c.row.new.self) w c.in_ok-cells.cells more c.loop-row-test.true c.row-item.is cells rest))
+    (c.in_ok-push.ensures.items
+    ∙ ap (λ a. c.loop-row.shown.items ++ (a, c.in_ok-cells.cells) ∷ []) c.in_ok-first.ensures)
+
+pub rows-returns : goal.rows-returns
+rows-returns t c =
+    rows_whole _ _ _ c.loop-row.shown.items
+    (c.loop-row.invariant (state_of c.loop-row.self) []
+    (rows_done c.args.rows.now c.loop-row.row-index (state_of c.loop-row.self) c.loop-row-test.false))
+
+pub tabular-returns-then-not-is_list : goal.tabular-returns-then-not-is_list
+tabular-returns-then-not-is_list t c =
+    let P : Shown → Type 0 = λ x. HasShown x (state_of c.args.self.now) (state_of c.bad.new.self) in
+    let is = shown_bad c.args.self.now.attrs c.args.label.now c.args.value.now
+    (table_not c.args.value.now c.args.plan.now c.requires c.if-not-is_list.ensures) in
+    on_ok_weaker c.bad.result (λ h. subst P (sym is) h) c.bad.ensures
+
+pub tabular-add_rows-requires : goal.tabular-add_rows-requires
+tabular-add_rows-requires t c =
+    let rows = rw c.all-cells.ensures at c.in_ok-rows.ensures in
+    rows_long c.args.value.now c.in-Some.grid _ _ c.in_ok-rows.rows.items (sym c.in-Some.is ∙ c.in_ok-grid.ensures) rows
+    ∙ ap (map length) (sym c.all-sides.ensures)
+
+pub tabular-returns : goal.tabular-returns
+tabular-returns t c =
+    let rows = rw c.all-cells.ensures at c.in_ok-rows.ensures in
+    let added = rw c.all-sides.ensures at c.add_rows.ensures in
+    on_ok_weaker c.add_rows.result
+    (table_added c.args.label.now c.args.value.now c.in-Some.grid (state_of c.args.self.now) (state_of c.rows.new.self)
+    (state_of c.add_rows.new.self) c.in_ok-rows.rows.items (sym c.in-Some.is ∙ c.in_ok-grid.ensures)
+    (table_there c.args.value.now c.args.plan.now c.requires c.if-not-is_list.ensures) rows) added
