@@ -5,7 +5,7 @@ use Rattle.std.proofs.Math.ListN.{set, length-set}
 use Rattle.std.proofs.lemmas.Bool.{cases_lt}
 use Rattle.std.proofs.lemmas.List.{map-id, get_or-replicate, length-replicate, drop_more, drop_all}
 use Rattle.std.proofs.lemmas.List.FromFn.{map-range_with_len_more, fill_by_all, get_or-range_with_len, length-range_with_len}
-use Rattle.std.specs.Prelude.{nat_lt, nat_le, ◌&&◌, map, replicate}
+use Rattle.std.specs.Prelude.{nat_lt, nat_le, ◌&&◌, replicate}
 use Rattle.std.specs.List.{fold, range_with_len}
 use Rattle.std.specs.Option.{option_or, unwrap_or}
 use Rattle.tx_table.specs.declared.settings.Side.{Side}

@@ -1,4 +1,4 @@
-use Rattle.std.proofs.Common.{◌≡◌, ◌≤◌, ◌+◌, ◌-◌, drop, length}
+use Rattle.std.proofs.Common.{◌≤◌, ◌+◌, ◌-◌, drop, length}
 use Rattle.tx_table.specs.Painting.{last_set, Painted, up_to}
 use Rattle.tx_table.proofs.sides.paint.Given as goal
 
