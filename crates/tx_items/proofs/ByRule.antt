@@ -13,9 +13,9 @@ use Rattle.tx_items.specs.declared.drawing.Item.{Item}
 use Rattle.tx_items.specs.Attributes.{with_named, attribute_in}
 use Rattle.tx_items.specs.Drawing.{drawn}
 use Rattle.tx_items.specs.Rules.{Rule, rule_of}
-use Rattle.tx_items.specs.Shows.{empty, inline, in_line, bad, assign_shown, space_by, space_shown}
+use Rattle.tx_items.specs.Shows.{Shown, empty, inline, in_line, bad, assign_shown, space_by, space_shown}
 use Rattle.tx_items.specs.Shows.{error_by, error_shown, rule_shown, show, show_all, show_with}
-use Rattle.tx_items.specs.Running.{length_alone}
+use Rattle.tx_items.specs.Running.{length_alone, table_shown}
 
 pub show_text : (a : Attrs) (v : WideValue) (words : List ℕ) (at : Option (List ℕ)) → value_text v ≡ Some words
     → at ≡ value_origin v → show a v ≡ in_line a (drawn a at words)
@@ -27,14 +27,16 @@ show_text a (made label vs p) words at e f = absurd cc
 
 pub show_row : (a : Attrs) (v : WideValue) (label : List ℕ) (r : Rule) → value_label v ≡ Some label → r ≡ rule_of label
     → show a v ≡ rule_shown r a label (vals (value_parts v)) (λ barred. show_all barred a (vals (value_parts v)))
-    (show_with a a (vals (value_parts v)))
+    (show_with a a (vals (value_parts v))) (table_shown a label v)
 unfolding show
 show_row a (text words at) label r e f = absurd cc
 show_row a (made l vs at) label r e f =
     let same : l ≡ label = cc in
-    ap (λ m. rule_shown (rule_of m) a m vs (λ barred. show_all barred a vs) (show_with a a vs)) same
-    ∙ ap (λ q. rule_shown q a label vs (λ barred. show_all barred a vs) (show_with a a vs)) (sym f)
-    ∙ ap (λ us. rule_shown r a label us (λ barred. show_all barred a us) (show_with a a us)) (sym (vals_each vs))
+    let table : List ℕ → Shown = λ m. table_shown a m (made l vs at) in
+    ap (λ m. rule_shown (rule_of m) a m vs (λ barred. show_all barred a vs) (show_with a a vs) (table m)) same
+    ∙ ap (λ q. rule_shown q a label vs (λ barred. show_all barred a vs) (show_with a a vs) (table label)) (sym f)
+    ∙ ap (λ us. rule_shown r a label us (λ barred. show_all barred a us) (show_with a a us) (table label))
+    (sym (vals_each vs))
 
 pub copied_origin : (v : WideValue) (r : Option (Bor (List ℕ)))
     → MatchOption r (value_origin v ≡ None) (λ p. value_origin v ≡ Some p.now) → option_copied r ≡ value_origin v

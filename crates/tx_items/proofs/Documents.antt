@@ -6,7 +6,8 @@ use Rattle.tx_origin.specs.Values.{WideValue, WideValues, none, also, vals}
 use Rattle.tx_items.specs.declared.attributes.Attrs.{Attrs}
 use Rattle.tx_items.specs.Shows.{empty, beside, run_ended, whole_run, Form, inline, listed, Shown, AllShown, is_inline}
 use Rattle.tx_items.specs.Shows.{one_by_one, document_shown, show, show_all}
-use Rattle.tx_items.specs.Running.{State, Adds, HasShown, HasPars, EndsRun, EndsParagraph, one_of, both_shown}
+use Rattle.tx_items.specs.Shows.{one_of, both_shown}
+use Rattle.tx_items.specs.Running.{State, Adds, HasShown, HasPars, EndsRun, EndsParagraph}
 use Rattle.tx_items.proofs.Runs.{inline_case, list_case, show_all_also, item_first}
 
 one_append : (xs ys : List (Form × Attrs)) → one_by_one (xs ++ ys) ≡ one_by_one xs ++ one_by_one ys

@@ -1,5 +1,10 @@
 mod Walks
 mod Runs
+mod Flatness
+mod Below
+mod FlatLoops
+mod RowsShown
+mod Columns
 mod Documents
 mod Planning
 mod ByRule

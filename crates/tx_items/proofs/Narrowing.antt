@@ -1,5 +1,5 @@
 -- No cluster that is shown is wider than 2 cells.
-use Rattle.std.proofs.Common.{ℕ, ◌≤◌, Bool, true, false, cond, List, [], ◌∷◌, ◌++◌, get_or, Option, Some, None}
+use Rattle.std.proofs.Common.{ℕ, zero, suc, ◌+◌, ◌-◌, map, take, drop, length, ◌≤◌, Bool, true, false, cond, List, [], ◌∷◌, ◌++◌, get_or, Option, Some, None}
 use Rattle.std.specs.Prelude.{All, codes, ℤ, option_and_then}
 use Rattle.std.proofs.Common.{subst, sym}
 use Rattle.std.proofs.lemmas.List.{append-nil}
@@ -9,6 +9,10 @@ use Rattle.tx_origin.specs.Values.{WideValue, WideValues, text, made, none, also
 use Rattle.tx_text.specs.declared.cutting.Cluster.{Cluster}
 use Rattle.tx_text.specs.Clusters.{items_of, clusters_of}
 use Rattle.tx_text.proofs.Spreading.{narrow}
+use Rattle.tx_table.specs.declared.grids.Grid.{Grid}
+use Rattle.tx_table.specs.declared.settings.Side.{Side}
+use Rattle.tx_table.specs.Grids.{grid_of}
+use Rattle.tx_table.specs.Columns.{column_widths, left_pad, right_pad, across}
 use Rattle.tx_items.specs.declared.attributes.Attrs.{Attrs}
 use Rattle.tx_items.specs.declared.drawing.Item.{Item}
 use Rattle.tx_items.specs.declared.drawing.Drawn.{Drawn}
@@ -28,6 +32,11 @@ use Rattle.tx_items.specs.Shows.{assign_shown, cells_of_length, space_by, space_
 use Rattle.tx_items.specs.Shows.{tag_shown}
 use Rattle.tx_items.specs.Shows.{rule_shown, giving_back, show, show_all, show_with, or_one, unit_paragraphs}
 use Rattle.tx_items.specs.Shows.{shown_paragraphs}
+use Rattle.tx_items.specs.Shows.{items_in, after_each, shown_rows, rows_shown, cells_fit, bad, tabular_shown}
+use Rattle.tx_items.specs.Shows.{show_below}
+use Rattle.tx_items.specs.Cells.{cells_across}
+use Rattle.tx_items.specs.Tables.{missing_gap, gap_before, cell_items, row_from, row_items, ShownRow, row_widths}
+use Rattle.tx_items.specs.Tables.{row_paragraphs, Level, Every, Final, levels_of}
 use Rattle.tx_items.specs.Narrow.{IsNarrow}
 
 abbrev OfRun : ItemRun → Type 0
@@ -190,20 +199,106 @@ tag_narrow a label all h =
 one_item : (a : Attrs) (x : Item) → IsNarrow x → OfRun (run_of a (x ∷ []))
 one_item a x h = All-cons IsNarrow x [] h (All-nil IsNarrow)
 
+-- ---- tables
+
+abbrev OfCells : List (List Item) → Type 0
+OfCells [] = Unit {0}
+OfCells (x ∷ xs) = All IsNarrow x × OfCells xs
+
+abbrev OfRows : List ShownRow → Type 0
+OfRows [] = Unit {0}
+OfRows (row ∷ rows) = OfCells row.1 × OfRows rows
+
+cell_narrow : (x : Form) → OfForm x → All IsNarrow (items_in x)
+cell_narrow (inline empty) h = All-nil IsNarrow
+cell_narrow (inline (begun a xs)) h = h
+cell_narrow (listed ps) h = All-nil IsNarrow
+
+taken_narrow : (n : ℕ) (fs : List (Form × Attrs)) → OfForms fs → OfCells (map (λ f. items_in f.0) (take n fs))
+taken_narrow zero fs h = tt
+taken_narrow (suc n) [] h = tt
+taken_narrow (suc n) (f ∷ fs) h = (cell_narrow f.0 h.0, taken_narrow n fs h.1)
+
+dropped_narrow : (n : ℕ) (fs : List (Form × Attrs)) → OfForms fs → OfForms (drop n fs)
+dropped_narrow zero fs h = h
+dropped_narrow (suc n) [] h = tt
+dropped_narrow (suc n) (f ∷ fs) h = dropped_narrow n fs h.1
+
+rows_narrow : (ns : List ℕ) (a : Attrs) (fs : List (Form × Attrs)) → OfForms fs → OfRows (shown_rows ns a fs)
+rows_narrow [] a fs h = tt
+rows_narrow (n ∷ ns) a fs h =
+    (taken_narrow n fs h, rows_narrow ns (after_each a (take n fs)) (drop n fs) (dropped_narrow n fs h))
+
+gap_narrow : (n : ℕ) (xs : List Item) → All IsNarrow xs → All IsNarrow (Gap n ∷ xs)
+gap_narrow n xs h = All-cons IsNarrow (Gap n) xs tt h
+
+missing_narrow : (columns : List ℕ) → All IsNarrow (missing_gap columns)
+missing_narrow [] = All-nil IsNarrow
+missing_narrow (n ∷ ns) = gap_narrow (2 + across (n ∷ ns)) [] (All-nil IsNarrow)
+
+before_narrow : (j : ℕ) → All IsNarrow (gap_before j)
+before_narrow zero = All-nil IsNarrow
+before_narrow (suc j) = gap_narrow 2 [] (All-nil IsNarrow)
+
+padded_narrow : (s : Side) (n : ℕ) (x : List Item) → All IsNarrow x → All IsNarrow (cell_items s n x)
+padded_narrow s n x h =
+    let free : ℕ = n - cells_across x in
+    gap_narrow (left_pad s free) (x ++ Gap (right_pad s free) ∷ [])
+    (All-append IsNarrow x (Gap (right_pad s free) ∷ []) h
+    (gap_narrow (right_pad s free) [] (All-nil IsNarrow)))
+
+row_narrow : (j : ℕ) (columns : List ℕ) (sides : List Side) (cells : List (List Item)) → OfCells cells
+    → All IsNarrow (row_from j columns sides cells)
+row_narrow j columns sides [] h = missing_narrow columns
+row_narrow j [] sides (x ∷ xs) h = All-nil IsNarrow
+row_narrow j (n ∷ ns) [] (x ∷ xs) h = All-nil IsNarrow
+row_narrow j (n ∷ ns) (s ∷ ss) (x ∷ xs) h =
+    All-append IsNarrow (gap_before j ++ cell_items s n x) (row_from (j + 1) ns ss xs)
+    (All-append IsNarrow (gap_before j) (cell_items s n x) (before_narrow j) (padded_narrow s n x h.0))
+    (row_narrow (j + 1) ns ss xs h.1)
+
+table_narrow : (columns : List ℕ) (sides : List (List Side)) (rows : List ShownRow) → OfRows rows
+    → OfPars (row_paragraphs columns sides rows)
+table_narrow columns [] rows h = All-nil (λ p. All IsNarrow p.items)
+table_narrow columns (ss ∷ sides) [] h = All-nil (λ p. All IsNarrow p.items)
+table_narrow columns (ss ∷ sides) (row ∷ rows) h =
+    pars_append (paragraph (row_items columns ss row.1) row.0 ∷ []) (row_paragraphs columns sides rows)
+    (one_paragraph (row_items columns ss row.1) row.0 (row_narrow 0 columns ss row.1 h.0))
+    (table_narrow columns sides rows h.1)
+
+tabular_narrow : (a : Attrs) (label : List ℕ) (grid : Option Grid) (cells : AllShown) → OfForms cells.each
+    → OfForm (tabular_shown a label grid cells).form
+tabular_narrow a label None cells h = bad_narrow a label
+tabular_narrow a label (Some grid) cells h = pick (cells_fit cells.each)
+  where
+    rows : List ShownRow
+    rows = shown_rows (map length grid.sides) a cells.each
+
+    pick : (b : Bool) → OfForm (cond b (rows_shown a grid.sides cells) (bad a label)).form
+    pick true =
+        table_narrow (column_widths (row_widths rows)) grid.sides rows
+        (rows_narrow (map length grid.sides) a cells.each h)
+    pick false = bad_narrow a label
+
+forms_both : (xs ys : List (Form × Attrs)) → OfForms xs → OfForms ys → OfForms (xs ++ ys)
+forms_both [] ys h k = k
+forms_both (x ∷ xs) ys h k = (h.0, forms_both xs ys h.1 k)
+
 rule_narrow : (r : Rule) (a : Attrs) (label : List ℕ) (vs : WideValues) (all : Bool → AllShown) (last : Option Shown)
-    → ((barred : Bool) → OfForms (all barred).each) → OfForm (with_shown a label last).form
-    → OfForm (rule_shown r a label vs all last).form
-rule_narrow rules.Concat a label vs all last h k = joined_narrow (all false).each (h false)
-rule_narrow rules.Document a label vs all last h k = one_narrow (all false).each (h false)
-rule_narrow rules.With a label vs all last h k = k
-rule_narrow rules.Assign a label vs all last h k = assign_narrow a label vs
-rule_narrow rules.Silent a label vs all last h k = tt
-rule_narrow rules.NextLine a label vs all last h k = one_item a Break tt
-rule_narrow rules.NewPage a label vs all last h k = one_item a PageEnd tt
-rule_narrow rules.Hspace a label vs all last h k = space_narrow Gap (λ n. tt) a label vs
-rule_narrow rules.Vspace a label vs all last h k = space_narrow Down (λ n. tt) a label vs
-rule_narrow rules.Error a label vs all last h k = error_shown_narrow a label vs
-rule_narrow rules.Other a label vs all last h k = tag_narrow a label (all true) (h true)
+    (table : Shown) → ((barred : Bool) → OfForms (all barred).each) → OfForm (with_shown a label last).form
+    → OfForm table.form → OfForm (rule_shown r a label vs all last table).form
+rule_narrow rules.Concat a label vs all last table h k t = joined_narrow (all false).each (h false)
+rule_narrow rules.Document a label vs all last table h k t = one_narrow (all false).each (h false)
+rule_narrow rules.With a label vs all last table h k t = k
+rule_narrow rules.Assign a label vs all last table h k t = assign_narrow a label vs
+rule_narrow rules.Silent a label vs all last table h k t = tt
+rule_narrow rules.NextLine a label vs all last table h k t = one_item a Break tt
+rule_narrow rules.NewPage a label vs all last table h k t = one_item a PageEnd tt
+rule_narrow rules.Hspace a label vs all last table h k t = space_narrow Gap (λ n. tt) a label vs
+rule_narrow rules.Vspace a label vs all last table h k t = space_narrow Down (λ n. tt) a label vs
+rule_narrow rules.Error a label vs all last table h k t = error_shown_narrow a label vs
+rule_narrow rules.Tabular a label vs all last table h k t = t
+rule_narrow rules.Other a label vs all last table h k t = tag_narrow a label (all true) (h true)
 
 giving_narrow : (name : Option (List ℕ)) (before a : Attrs) (label : List ℕ) (o : Option Shown)
     → OfForm (with_shown a label o).form → OfForm (with_shown a label (giving_back name before o)).form
@@ -217,7 +312,10 @@ mutual
   show_narrow a (text words at) = run_narrow a (drawn a at words) (drawn_narrow a at words)
   show_narrow a (made label vs at) =
       rule_narrow (rule_of label) a label vs (λ barred. show_all barred a vs) (show_with a a vs)
+      (tabular_shown a label (grid_of (made label vs at)) (show_below (levels_of vs) a vs))
       (λ barred. all_narrow barred a vs) (last_narrow a label a a vs)
+      (tabular_narrow a label (grid_of (made label vs at)) (show_below (levels_of vs) a vs)
+      (below_narrow (levels_of vs) a vs))
 
   all_narrow : (barred : Bool) (a : Attrs) (vs : WideValues) → OfForms (show_all barred a vs).each
   all_narrow barred a none = tt
@@ -235,6 +333,18 @@ mutual
       giving_narrow (value_text x) before c label
       (show_with before (with_named (attribute_in (value_text x)) (value_text v) a) vs)
       (last_narrow c label before (with_named (attribute_in (value_text x)) (value_text v) a) vs)
+
+  below_narrow : (levels : List Level) (a : Attrs) (vs : WideValues) → OfForms (show_below levels a vs).each
+  below_narrow levels a none = tt
+  below_narrow [] a (also v none) = (show_narrow a v, tt)
+  below_narrow [] a (also x (also v vs)) = tt
+  below_narrow (Every ∷ levels) a (also (text words at) vs) = below_narrow (Every ∷ levels) a vs
+  below_narrow (Every ∷ levels) a (also (made label ws at) vs) =
+      forms_both (show_below levels a ws).each (show_below (Every ∷ levels) (show_below levels a ws).after vs).each
+      (below_narrow levels a ws) (below_narrow (Every ∷ levels) (show_below levels a ws).after vs)
+  below_narrow (Final ∷ levels) a (also (text words at) none) = tt
+  below_narrow (Final ∷ levels) a (also (made label ws at) none) = below_narrow levels a ws
+  below_narrow (Final ∷ levels) a (also x (also v vs)) = below_narrow (Final ∷ levels) a (also v vs)
 
 or_one_narrow : (end : Attrs) (ps : List Paragraph) → OfPars ps → OfPars (or_one end ps)
 or_one_narrow end [] h = one_paragraph [] end (All-nil IsNarrow)

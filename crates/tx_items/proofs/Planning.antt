@@ -11,11 +11,13 @@ use Rattle.tx_tree.specs.WideTree.{WideTree, Forest, nil, cons, forest, trees, i
 use Rattle.tx_origin.specs.Values.{WideValue, WideValues, text, made, none, also, vals, value_parts, value_text}
 use Rattle.tx_origin.specs.Values.{value_label}
 use Rattle.tx_origin.proofs.Parts.{vals_each}
+use Rattle.tx_table.specs.declared.grids.Grid.{Grid}
+use Rattle.tx_table.specs.Grids.{grid_of}
 use Rattle.tx_items.specs.declared.attributes.Attrs.{Attrs}
 use Rattle.tx_items.proofs.Walks.{text_or_node, part_shallower, last_shallower, last_there}
 use Rattle.tx_items.specs.declared.drawing.Item.{Item}
 use Rattle.tx_items.specs.declared.drawing.Item.TheVariants.{Gap, Down}
-use Rattle.tx_items.specs.Attributes.{with_named, attribute_in}
+use Rattle.tx_items.specs.Attributes.{with_named, attribute_in, initial}
 use Rattle.tx_items.specs.Drawing.{drawn}
 use Rattle.tx_items.specs.Rules.{Rule, rule_of}
 use Rattle.tx_items.specs.Rules as rules
@@ -25,7 +27,11 @@ use Rattle.tx_items.specs.Shows.{space_shown}
 use Rattle.tx_items.specs.Shows.{error_by, error_shown, made_form, rule_shown, giving_back, show, show_all}
 use Rattle.tx_items.specs.Shows.{show_with}
 use Rattle.tx_items.specs.Plans.{line_plan, list_plan, some_list, joint_plan, rule_plan, plan_of, plans_of, last_plan}
-use Rattle.tx_items.specs.Plans.{part_plan}
+use Rattle.tx_items.specs.Plans.{part_plan, table_plan}
+use Rattle.tx_items.specs.Shows.{bad, cells_fit, fits_cell, rows_shown, tabular_shown, show_below}
+use Rattle.tx_items.specs.Tables.{levels_of}
+use Rattle.tx_items.specs.Flat.{is_table, is_flat, flat_below, shows_table}
+use Rattle.tx_items.proofs.Flatness.{fits_flat, fits_below}
 
 -- ---- which values show as lists
 
@@ -81,41 +87,56 @@ error_inline a label (also k (also d none)) = error_by_inline a label (value_tex
 error_inline a label (also k (also d (also e vs))) = refl
 
 rule_inline : (r : Rule) (a : Attrs) (label : List ℕ) (vs : WideValues) (all : Bool → AllShown) (last : Option Shown)
-    (plans : Forest) (end : WideTree) → ((barred : Bool) → all_inline (all barred).each ≡ not (some_list plans))
+    (table : Shown) (plans : Forest) (end : WideTree) (tables : Bool) → ((barred : Bool) → all_inline (all barred).each ≡ not (some_list plans))
     → is_inline (with_shown a label last).form ≡ is_leaf end
-    → is_inline (rule_shown r a label vs all last).form ≡ is_leaf (rule_plan r plans end)
-rule_inline rules.Concat a label vs all last plans end h k =
+    → is_inline table.form ≡ is_leaf (table_plan tables)
+    → is_inline (rule_shown r a label vs all last table).form ≡ is_leaf (rule_plan r plans end tables)
+rule_inline rules.Concat a label vs all last table plans end tables h k t =
     joined_inline (all false).each ∙ h false ∙ sym (joint_leaf plans)
-rule_inline rules.Document a label vs all last plans end h k = refl
-rule_inline rules.With a label vs all last plans end h k = k
-rule_inline rules.Assign a label vs all last plans end h k = assign_inline a label vs
-rule_inline rules.Silent a label vs all last plans end h k = refl
-rule_inline rules.NextLine a label vs all last plans end h k = refl
-rule_inline rules.NewPage a label vs all last plans end h k = refl
-rule_inline rules.Hspace a label vs all last plans end h k = space_inline Gap a label vs
-rule_inline rules.Vspace a label vs all last plans end h k = space_inline Down a label vs
-rule_inline rules.Error a label vs all last plans end h k = error_inline a label vs
-rule_inline rules.Other a label vs all last plans end h k =
-    let t = all true in
-    let close : ItemRun = run_of t.after (drawn t.after None (codes "<gtr>")) in
+rule_inline rules.Document a label vs all last table plans end tables h k t = refl
+rule_inline rules.With a label vs all last table plans end tables h k t = k
+rule_inline rules.Assign a label vs all last table plans end tables h k t = assign_inline a label vs
+rule_inline rules.Silent a label vs all last table plans end tables h k t = refl
+rule_inline rules.NextLine a label vs all last table plans end tables h k t = refl
+rule_inline rules.NewPage a label vs all last table plans end tables h k t = refl
+rule_inline rules.Hspace a label vs all last table plans end tables h k t = space_inline Gap a label vs
+rule_inline rules.Vspace a label vs all last table plans end tables h k t = space_inline Down a label vs
+rule_inline rules.Error a label vs all last table plans end tables h k t = error_inline a label vs
+rule_inline rules.Tabular a label vs all last table plans end tables h k t = t
+rule_inline rules.Other a label vs all last table plans end tables h k t =
+    let tag = all true in
+    let close : ItemRun = run_of tag.after (drawn tag.after None (codes "<gtr>")) in
     joined_inline (
-    made_form a (drawn a None (codes "<less>") ++ drawn a None label) ∷ (t.each ++ (inline close, t.after) ∷ [])
+    made_form a (drawn a None (codes "<less>") ++ drawn a None label) ∷ (tag.each ++ (inline close, tag.after) ∷ [])
     )
-    ∙ inline_behind t.each close t.after ∙ h true ∙ sym (joint_leaf plans)
+    ∙ inline_behind tag.each close tag.after ∙ h true ∙ sym (joint_leaf plans)
 
 giving_inline : (name : Option (List ℕ)) (before a : Attrs) (label : List ℕ) (o : Option Shown) (b : Bool)
     → is_inline (with_shown a label o).form ≡ b → is_inline (with_shown a label (giving_back name before o)).form ≡ b
 giving_inline name before a label None b h = h
 giving_inline name before a label (Some s) b h = h
 
+table_inline : (a : Attrs) (label : List ℕ) (grid : Option Grid) (cells : AllShown) (flat : Bool)
+    → cells_fit cells.each ≡ flat
+    → is_inline (tabular_shown a label grid cells).form ≡ is_leaf (table_plan (is_table grid flat))
+table_inline a label None cells flat h = refl
+table_inline a label (Some grid) cells flat h = pick (cells_fit cells.each) ∙ ap (λ b. is_leaf (table_plan b)) h
+  where
+    pick : (b : Bool) → is_inline (cond b (rows_shown a grid.sides cells) (bad a label)).form ≡ is_leaf (table_plan b)
+    pick true = refl
+    pick false = refl
+
 mutual
-  unfolding show plan_of
+  unfolding show plan_of shows_table
 
   pub shows_list : (a : Attrs) (v : WideValue) → is_inline (show a v).form ≡ is_leaf (plan_of v)
   shows_list a (text words at) = refl
   shows_list a (made label vs at) =
-      rule_inline (rule_of label) a label vs (λ barred. show_all barred a vs) (show_with a a vs) (plans_of vs)
-      (last_plan vs) (λ barred. show_lists barred a vs) (shows_last a label a a vs)
+      rule_inline (rule_of label) a label vs (λ barred. show_all barred a vs) (show_with a a vs)
+      (tabular_shown a label (grid_of (made label vs at)) (show_below (levels_of vs) a vs)) (plans_of vs) (last_plan vs)
+      (shows_table (made label vs at)) (λ barred. show_lists barred a vs) (shows_last a label a a vs)
+      (table_inline a label (grid_of (made label vs at)) (show_below (levels_of vs) a vs)
+      (flat_below (levels_of vs) vs) (fits_below (levels_of vs) a vs))
 
   show_lists : (barred : Bool) (a : Attrs) (vs : WideValues)
       → all_inline (show_all barred a vs).each ≡ not (some_list (plans_of vs))
@@ -146,26 +167,31 @@ joint_line ps = pick (some_list ps)
     pick true h = absurd cc
     pick false h = refl
 
-rule_line : (r : Rule) (ps : Forest) (end : WideTree) → (is_leaf end ≡ true → end ≡ line_plan)
-    → is_leaf (rule_plan r ps end) ≡ true → rule_plan r ps end ≡ line_plan
-rule_line rules.Concat ps end k h = joint_line ps h
-rule_line rules.Document ps end k h = absurd cc
-rule_line rules.With ps end k h = k h
-rule_line rules.Assign ps end k h = refl
-rule_line rules.Silent ps end k h = refl
-rule_line rules.NextLine ps end k h = refl
-rule_line rules.NewPage ps end k h = refl
-rule_line rules.Hspace ps end k h = refl
-rule_line rules.Vspace ps end k h = refl
-rule_line rules.Error ps end k h = refl
-rule_line rules.Other ps end k h = joint_line ps h
+table_line : (b : Bool) → is_leaf (table_plan b) ≡ true → table_plan b ≡ line_plan
+table_line true h = absurd cc
+table_line false h = refl
+
+rule_line : (r : Rule) (ps : Forest) (end : WideTree) (table : Bool) → (is_leaf end ≡ true → end ≡ line_plan)
+    → is_leaf (rule_plan r ps end table) ≡ true → rule_plan r ps end table ≡ line_plan
+rule_line rules.Concat ps end table k h = joint_line ps h
+rule_line rules.Document ps end table k h = absurd cc
+rule_line rules.With ps end table k h = k h
+rule_line rules.Assign ps end table k h = refl
+rule_line rules.Silent ps end table k h = refl
+rule_line rules.NextLine ps end table k h = refl
+rule_line rules.NewPage ps end table k h = refl
+rule_line rules.Hspace ps end table k h = refl
+rule_line rules.Vspace ps end table k h = refl
+rule_line rules.Error ps end table k h = refl
+rule_line rules.Tabular ps end table k h = table_line table h
+rule_line rules.Other ps end table k h = joint_line ps h
 
 mutual
   unfolding plan_of
 
   leaf_is_line : (v : WideValue) → is_leaf (plan_of v) ≡ true → plan_of v ≡ line_plan
   leaf_is_line (text words at) h = refl
-  leaf_is_line (made label vs at) h = rule_line (rule_of label) (plans_of vs) (last_plan vs) (last_is_line vs) h
+  leaf_is_line (made label vs at) h = rule_line (rule_of label) (plans_of vs) (last_plan vs) (shows_table (made label vs at)) (last_is_line vs) h
 
   last_is_line : (vs : WideValues) → is_leaf (last_plan vs) ≡ true → last_plan vs ≡ line_plan
   last_is_line none h = refl
@@ -216,14 +242,15 @@ plan_text (text words at) e = refl
 plan_text (made label vs at) e = absurd cc
 
 pub plan_row : (v : WideValue) (label : List ℕ) (r : Rule) → value_label v ≡ Some label → r ≡ rule_of label
-    → plan_of v ≡ rule_plan r (plans_of (vals (value_parts v))) (last_plan (vals (value_parts v)))
+    → plan_of v ≡ rule_plan r (plans_of (vals (value_parts v))) (last_plan (vals (value_parts v))) (shows_table v)
 unfolding plan_of
 plan_row (text words at) label r e f = absurd cc
 plan_row (made l vs at) label r e f =
     let same : l ≡ label = cc in
-    ap (λ m. rule_plan (rule_of m) (plans_of vs) (last_plan vs)) same
-    ∙ ap (λ q. rule_plan q (plans_of vs) (last_plan vs)) (sym f)
-    ∙ ap (λ us. rule_plan r (plans_of us) (last_plan us)) (sym (vals_each vs))
+    let table : Bool = shows_table (made l vs at) in
+    ap (λ m. rule_plan (rule_of m) (plans_of vs) (last_plan vs) table) same
+    ∙ ap (λ q. rule_plan q (plans_of vs) (last_plan vs) table) (sym f)
+    ∙ ap (λ us. rule_plan r (plans_of us) (last_plan us) table) (sym (vals_each vs))
 
 -- what the plan is that a value's rule is given
 pub plan_joint : (v : WideValue) (p : WideTree) (label bytes : List ℕ) → p ≡ plan_of v → value_label v ≡ Some label
@@ -241,6 +268,18 @@ plan_list v p label bytes is e same r = is ∙ plan_row v label rules.Document e
 pub plan_with : (v : WideValue) (p : WideTree) (label bytes : List ℕ) → p ≡ plan_of v → value_label v ≡ Some label
     → bytes ≡ label → rules.With ≡ rule_of bytes → p ≡ last_plan (vals (value_parts v))
 plan_with v p label bytes is e same r = is ∙ plan_row v label rules.With e (r ∙ ap rule_of same)
+
+pub plan_table : (v : WideValue) (p : WideTree) (label bytes : List ℕ) → p ≡ plan_of v → value_label v ≡ Some label
+    → bytes ≡ label → rules.Tabular ≡ rule_of bytes → p ≡ table_plan (shows_table v)
+plan_table v p label bytes is e same r = is ∙ plan_row v label rules.Tabular e (r ∙ ap rule_of same)
+
+-- the plan of a value that is flat
+pub flat_plan : (v : WideValue) → is_flat v ≡ true → line_plan ≡ plan_of v
+flat_plan v h = sym (leaf_is_line v (sym (shows_list initial v) ∙ in_line (show initial v).form (fits_flat initial v ∙ h)))
+  where
+    in_line : (x : Form) → fits_cell x ≡ true → is_inline x ≡ true
+    in_line (inline r) k = refl
+    in_line (listed ps) k = absurd cc
 
 -- ---- loops that make plans
 
@@ -315,4 +354,4 @@ list_by_plan a v p is f = shows_list a v ∙ ap is_leaf (sym is) ∙ pick (is_le
     pick true h = absurd cc
     pick false h = refl
 
-pub ruleset choosing = (text_or_node, plan_joint, plan_tag, plan_list, plan_with)
+pub ruleset choosing = (text_or_node, plan_joint, plan_tag, plan_list, plan_with, plan_table, flat_plan)

@@ -11,7 +11,8 @@ use Rattle.tx_items.specs.Shows.{ItemRun, empty, begun, run_of, beside, run_ende
 use Rattle.tx_items.specs.Shows.{AllShown}
 use Rattle.tx_items.specs.Shows.{all_inline, is_inline, side_by_side, paragraphs_of, concat_shown, in_line}
 use Rattle.tx_items.specs.Shows.{made_error, tag_shown, show, show_all}
-use Rattle.tx_items.specs.Running.{State, Adds, HasShown, ShowsForms, HasRun, EndsRun, one_of, bar_of, both_shown}
+use Rattle.tx_items.specs.Shows.{one_of, both_shown}
+use Rattle.tx_items.specs.Running.{State, Adds, HasShown, ShowsForms, HasRun, EndsRun, bar_of}
 use Rattle.tx_items.specs.Running.{tag_front}
 
 pub beside_empty : (r : ItemRun) → beside r empty ≡ r

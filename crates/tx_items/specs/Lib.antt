@@ -4,7 +4,11 @@ pub mod Fields
 pub mod Looks
 pub mod LookView
 pub mod Drawing
+pub mod Cells
+pub mod Tables
+pub mod RowPlaces
 pub mod Rules
+pub mod Flat
 pub mod Rows
 pub mod Shows
 pub mod Narrow

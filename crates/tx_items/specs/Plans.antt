@@ -6,6 +6,7 @@ use Rattle.tx_tree.specs.WideTree.{WideTree, Forest, leaf, node, nil, cons, chil
 use Rattle.tx_origin.specs.Values.{WideValue, WideValues, text, made, none, also}
 use Rattle.tx_items.specs.Rules.{Rule, rule_of}
 use Rattle.tx_items.specs.Rules as rules
+use Rattle.tx_items.specs.Flat.{shows_table}
 
 abbrev pub line_plan : WideTree
 line_plan = leaf []
@@ -21,24 +22,29 @@ some_list (cons p ps) = not (is_leaf p) || some_list ps
 abbrev pub joint_plan : Forest → WideTree
 joint_plan plans = if some_list plans then list_plan plans else line_plan
 
--- by the plans of the parts, and that of the last one behind pairs
-abbrev pub rule_plan : Rule → Forest → WideTree → WideTree
-rule_plan rules.Concat plans last = joint_plan plans
-rule_plan rules.Document plans last = list_plan plans
-rule_plan rules.With plans last = last
-rule_plan rules.Assign plans last = line_plan
-rule_plan rules.Silent plans last = line_plan
-rule_plan rules.NextLine plans last = line_plan
-rule_plan rules.NewPage plans last = line_plan
-rule_plan rules.Hspace plans last = line_plan
-rule_plan rules.Vspace plans last = line_plan
-rule_plan rules.Error plans last = line_plan
-rule_plan rules.Other plans last = joint_plan plans
+-- a table is a list, whose cells are in a line each
+abbrev pub table_plan : Bool → WideTree
+table_plan table = if table then list_plan nil else line_plan
+
+-- by the plans of the parts, that of the last one behind pairs, and whether they show as a table
+abbrev pub rule_plan : Rule → Forest → WideTree → Bool → WideTree
+rule_plan rules.Concat plans last table = joint_plan plans
+rule_plan rules.Document plans last table = list_plan plans
+rule_plan rules.With plans last table = last
+rule_plan rules.Assign plans last table = line_plan
+rule_plan rules.Silent plans last table = line_plan
+rule_plan rules.NextLine plans last table = line_plan
+rule_plan rules.NewPage plans last table = line_plan
+rule_plan rules.Hspace plans last table = line_plan
+rule_plan rules.Vspace plans last table = line_plan
+rule_plan rules.Error plans last table = line_plan
+rule_plan rules.Tabular plans last table = table_plan table
+rule_plan rules.Other plans last table = joint_plan plans
 
 unfoldable mutual
   pub plan_of : WideValue → WideTree
   plan_of (text words at) = line_plan
-  plan_of (made label vs at) = rule_plan (rule_of label) (plans_of vs) (last_plan vs)
+  plan_of (made label vs at) = rule_plan (rule_of label) (plans_of vs) (last_plan vs) (shows_table (made label vs at))
 
   pub plans_of : WideValues → Forest
   plans_of none = nil

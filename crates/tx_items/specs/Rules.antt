@@ -23,6 +23,8 @@ pub data Rule : Type 0 where
   Vspace : Rule
   -- an error
   Error : Rule
+  -- a table
+  Tabular : Rule
   -- nothing says how to show it
   Other : Rule
 
@@ -39,4 +41,5 @@ rule_of label =
     else if bytes_eq label (codes "hspace") then Hspace
     else if bytes_eq label (codes "vspace") then Vspace
     else if bytes_eq label (codes "error") then Error
+    else if bytes_eq label (codes "tabular") then Tabular
     else Other

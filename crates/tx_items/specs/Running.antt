@@ -1,7 +1,8 @@
 -- What the code adds to what is shown so far.
-use Rattle.std.specs.Prelude.{◌≡◌, ℕ, Bool, true, false, List, [], ◌∷◌, ◌++◌, Option, None, option_and_then, ℤ, codes}
+use Rattle.std.specs.Prelude.{◌≡◌, ℕ, ◌+◌, map, length, Bool, true, false, List, [], ◌∷◌, ◌++◌, Option, None, option_and_then, ℤ, codes}
 use Rattle.tx_prim.specs.Lengths.{length_of}
-use Rattle.tx_origin.specs.Values.{WideValues, none, also, value_text}
+use Rattle.tx_origin.specs.Values.{WideValue, WideValues, text, made, none, also, vals, value_text}
+use Rattle.tx_table.specs.Grids.{grid_of}
 use Rattle.tx_items.specs.declared.attributes.Attrs.{Attrs}
 use Rattle.tx_items.specs.declared.drawing.Item.{Item}
 use Rattle.tx_items.specs.declared.drawing.Paragraph.{Paragraph}
@@ -9,7 +10,9 @@ use Rattle.tx_items.specs.declared.drawing.ErrorAt.{ErrorAt}
 use Rattle.tx_items.specs.declared.showing.Showing.{Showing}
 use Rattle.tx_items.specs.Attributes.{with_named, given_back, attribute_in}
 use Rattle.tx_items.specs.Shows.{begun, ItemRun, empty, run_of, beside, whole_run, run_ended, Form, inline, listed}
-use Rattle.tx_items.specs.Shows.{Shown}
+use Rattle.tx_items.specs.Shows.{Shown, items_in, shown_rows, show_all, show_below, bad}
+use Rattle.tx_items.specs.Shows.{tabular_shown}
+use Rattle.tx_items.specs.Tables.{ShownRow, missing_gap, gap_before, levels_of}
 use Rattle.tx_items.specs.Shows.{AllShown, all_inline, side_by_side, paragraphs_of, one_by_one, behind_bar, or_one}
 use Rattle.tx_items.specs.Drawing.{drawn}
 use Rattle.tx_items.specs.declared.drawing.Item.TheVariants.{Gap, Down as Lower}
@@ -75,15 +78,9 @@ pub record EndsParagraph (s u : State) : Type 0 where
   pub run : u.run ≡ empty
   pub paragraphs : u.paragraphs ≡ s.paragraphs ++ whole_run s.run s.attrs ∷ []
 
--- one value, and a bar before it
-abbrev pub one_of : Shown → AllShown
-one_of one = record { each = (one.form, one.after) ∷ []; after = one.after; errors = one.errors }
-
+-- a bar, or none
 abbrev pub bar_of : Bool → Attrs → AllShown
 bar_of barred a = record { each = behind_bar barred a []; after = a; errors = [] }
-
-abbrev pub both_shown : AllShown → AllShown → AllShown
-both_shown x y = record { each = x.each ++ y.each; after = y.after; errors = x.errors ++ y.errors }
 
 -- the attributes are these, and nothing else is changed
 pub record HasAttrs (attrs : Attrs) (s u : State) : Type 0 where
@@ -141,3 +138,51 @@ abbrev pub length_alone : WideValues → Option ℤ
 length_alone none = None
 length_alone (also v none) = option_and_then length_of (value_text v)
 length_alone (also v (also w vs)) = None
+
+-- ---- tables
+
+-- several, each a cell, of which the run holds nothing any more
+pub record HasCells (all : AllShown) (s u : State) (cells : List (List Item)) : Type 0 where
+  pub after : u.attrs ≡ all.after
+  pub errors : u.errors ≡ s.errors ++ all.errors
+  pub long : length cells ≡ length all.each
+  pub shown : s.run ≡ empty
+      → (u.run ≡ empty) × (u.paragraphs ≡ s.paragraphs) × (cells ≡ map (λ f. items_in f.0) all.each)
+
+abbrev pub all_cells : List (List WideValue) → List WideValue
+all_cells [] = []
+all_cells (row ∷ rows) = row ++ all_cells rows
+
+-- the same of rows of cells
+pub record HasRows (rows : List (List WideValue)) (s u : State) (shown : List ShownRow) : Type 0 where
+  pub after : u.attrs ≡ (show_all false s.attrs (vals (all_cells rows))).after
+  pub errors : u.errors ≡ s.errors ++ (show_all false s.attrs (vals (all_cells rows))).errors
+  pub long : map (λ r. length r.1) shown ≡ map length rows
+  pub are : s.run ≡ empty
+      → (u.run ≡ empty) × (u.paragraphs ≡ s.paragraphs)
+      × (shown ≡ shown_rows (map length rows) s.attrs (show_all false s.attrs (vals (all_cells rows))).each)
+
+-- the rows become paragraphs
+pub record AddsParagraphs (ps : List Paragraph) (s u : State) : Type 0 where
+  pub attrs : u.attrs ≡ s.attrs
+  pub run : u.run ≡ s.run
+  pub errors : u.errors ≡ s.errors
+  pub paragraphs : u.paragraphs ≡ s.paragraphs ++ ps
+
+-- the cells of columns, with a gap of 2 before each
+abbrev pub gaps_and_columns : List ℕ → ℕ
+gaps_and_columns [] = 0
+gaps_and_columns (n ∷ ns) = 2 + n + gaps_and_columns ns
+
+-- a row by the pads of its cells, from the j-th on
+abbrev pub padded_from : ℕ → List ℕ → List ℕ → List ℕ → List (List Item) → List Item
+padded_from j columns left right [] = missing_gap columns
+padded_from j (n ∷ ns) (l ∷ ls) (r ∷ rs) (x ∷ xs) =
+    gap_before j ++ (Gap l ∷ (x ++ Gap r ∷ [])) ++ padded_from (j + 1) ns ls rs xs
+padded_from j columns left right (x ∷ xs) = []
+
+-- what a `tabular` shows
+abbrev pub table_shown : Attrs → List ℕ → WideValue → Shown
+table_shown a label (text words at) = bad a label
+table_shown a label (made l vs at) =
+    tabular_shown a label (grid_of (made l vs at)) (show_below (levels_of vs) a vs)

@@ -1,8 +1,12 @@
 -- What a value shows as: items in a line, or a list of paragraphs.
-use Rattle.std.specs.Prelude.{ℕ, ◌/◌, min, Bool, true, false, ◌&&◌, List, [], ◌∷◌, ◌++◌}
+use Rattle.std.specs.Prelude.{ℕ, ◌/◌, min, Bool, true, false, not, ◌&&◌, List, [], ◌∷◌, ◌++◌, map, length, take, drop}
 use Rattle.std.specs.Prelude.{Option, Some, None, option_and_then, ℤ, pos, negsuc, if◌then◌else◌, codes}
+use Rattle.std.specs.List.{list_any}
 use Rattle.tx_prim.specs.Lengths.{length_of}
 use Rattle.tx_origin.specs.Values.{WideValue, WideValues, text, made, none, also, value_text}
+use Rattle.tx_table.specs.declared.grids.Grid.{Grid}
+use Rattle.tx_table.specs.declared.settings.Side.{Side}
+use Rattle.tx_table.specs.Grids.{grid_of}
 use Rattle.tx_items.specs.declared.attributes.Attrs.{Attrs}
 use Rattle.tx_items.specs.declared.drawing.Item.{Item}
 use Rattle.tx_items.specs.declared.drawing.Item.TheVariants.{Gap, Break, PageEnd, Down}
@@ -10,6 +14,7 @@ use Rattle.tx_items.specs.declared.drawing.Paragraph.{Paragraph}
 use Rattle.tx_items.specs.declared.drawing.ErrorAt.{ErrorAt}
 use Rattle.tx_items.specs.Attributes.{with_named, given_back, attribute_in}
 use Rattle.tx_items.specs.Drawing.{drawn, paragraph}
+use Rattle.tx_items.specs.Tables.{is_cut, ShownRow, table_paragraphs, Level, Every, Final, levels_of}
 use Rattle.tx_items.specs.Rules.{Rule, rule_of}
 use Rattle.tx_items.specs.Rules as rules
 
@@ -55,6 +60,18 @@ pub record AllShown : Type 0 where
   pub each : List (Form × Attrs)
   pub after : Attrs
   pub errors : List ErrorAt
+
+-- one value
+abbrev pub one_of : Shown → AllShown
+one_of one = record { each = (one.form, one.after) ∷ []; after = one.after; errors = one.errors }
+
+-- values, and others after them
+abbrev pub both_shown : AllShown → AllShown → AllShown
+both_shown x y = record { each = x.each ++ y.each; after = y.after; errors = x.errors ++ y.errors }
+
+-- no value
+abbrev pub nothing_shown : Attrs → AllShown
+nothing_shown a = record { each = []; after = a; errors = [] }
 
 abbrev pub is_inline : Form → Bool
 is_inline (inline r) = true
@@ -178,19 +195,65 @@ abbrev pub behind_bar : Bool → Attrs → List (Form × Attrs) → List (Form �
 behind_bar false a fs = fs
 behind_bar true a fs = made_form a (drawn a None (codes "|")) ∷ fs
 
--- a rule at a label, by the parts, what they show, each behind a bar or not, and what the last one shows behind pairs
-abbrev pub rule_shown : Rule → Attrs → List ℕ → WideValues → (Bool → AllShown) → Option Shown → Shown
-rule_shown rules.Concat a label vs all last = concat_shown (all false)
-rule_shown rules.Document a label vs all last = document_shown (all false)
-rule_shown rules.With a label vs all last = with_shown a label last
-rule_shown rules.Assign a label vs all last = assign_shown a label vs
-rule_shown rules.Silent a label vs all last = in_line a []
-rule_shown rules.NextLine a label vs all last = in_line a (Break ∷ [])
-rule_shown rules.NewPage a label vs all last = in_line a (PageEnd ∷ [])
-rule_shown rules.Hspace a label vs all last = space_shown Gap a label vs
-rule_shown rules.Vspace a label vs all last = space_shown Down a label vs
-rule_shown rules.Error a label vs all last = error_shown a label vs
-rule_shown rules.Other a label vs all last = tag_shown a label (all true)
+-- ---- tables
+
+abbrev pub run_items : ItemRun → List Item
+run_items empty = []
+run_items (begun a items) = items
+
+-- the items of what shows in a line
+abbrev pub items_in : Form → List Item
+items_in (inline r) = run_items r
+items_in (listed ps) = []
+
+-- it shows in a line, in which nothing ends a line or a page
+abbrev pub fits_cell : Form → Bool
+fits_cell (inline r) = not (list_any is_cut (run_items r))
+fits_cell (listed ps) = false
+
+abbrev pub cells_fit : List (Form × Attrs) → Bool
+cells_fit [] = true
+cells_fit (f ∷ fs) = fits_cell f.0 && cells_fit fs
+
+-- the attributes after values, before which these are the ones
+abbrev pub after_each : Attrs → List (Form × Attrs) → Attrs
+after_each a [] = a
+after_each a (f ∷ fs) = after_each f.1 fs
+
+-- rows of so many cells each
+abbrev pub shown_rows : List ℕ → Attrs → List (Form × Attrs) → List ShownRow
+shown_rows [] a fs = []
+shown_rows (n ∷ ns) a fs =
+    (a, map (λ f. items_in f.0) (take n fs)) ∷ shown_rows ns (after_each a (take n fs)) (drop n fs)
+
+abbrev pub rows_shown : Attrs → List (List Side) → AllShown → Shown
+rows_shown a sides cells = record {
+  form = listed (table_paragraphs sides (shown_rows (map length sides) a cells.each));
+  after = cells.after;
+  errors = cells.errors;
+}
+
+-- a row is a paragraph; where the value isn't of the asked form, or a cell doesn't fit, nothing of the cells is shown
+abbrev pub tabular_shown : Attrs → List ℕ → Option Grid → AllShown → Shown
+tabular_shown a label None cells = bad a label
+tabular_shown a label (Some grid) cells =
+    if cells_fit cells.each then rows_shown a grid.sides cells else bad a label
+
+-- a rule at a label, by the parts, what they show, each behind a bar or not, what the last one shows behind pairs, and
+-- what they show as a table
+abbrev pub rule_shown : Rule → Attrs → List ℕ → WideValues → (Bool → AllShown) → Option Shown → Shown → Shown
+rule_shown rules.Concat a label vs all last table = concat_shown (all false)
+rule_shown rules.Document a label vs all last table = document_shown (all false)
+rule_shown rules.With a label vs all last table = with_shown a label last
+rule_shown rules.Assign a label vs all last table = assign_shown a label vs
+rule_shown rules.Silent a label vs all last table = in_line a []
+rule_shown rules.NextLine a label vs all last table = in_line a (Break ∷ [])
+rule_shown rules.NewPage a label vs all last table = in_line a (PageEnd ∷ [])
+rule_shown rules.Hspace a label vs all last table = space_shown Gap a label vs
+rule_shown rules.Vspace a label vs all last table = space_shown Down a label vs
+rule_shown rules.Error a label vs all last table = error_shown a label vs
+rule_shown rules.Tabular a label vs all last table = table
+rule_shown rules.Other a label vs all last table = tag_shown a label (all true)
 
 -- what an attribute was before, it is again behind what is shown
 abbrev pub giving_back : Option (List ℕ) → Attrs → Option Shown → Option Shown
@@ -205,6 +268,7 @@ unfoldable mutual
   show a (text words at) = in_line a (drawn a at words)
   show a (made label vs at) =
       rule_shown (rule_of label) a label vs (λ barred. show_all barred a vs) (show_with a a vs)
+      (tabular_shown a label (grid_of (made label vs at)) (show_below (levels_of vs) a vs))
 
   -- what values show one behind the other, each behind a bar or not
   pub show_all : Bool → Attrs → WideValues → AllShown
@@ -225,6 +289,18 @@ unfoldable mutual
   show_with before a (also x (also v vs)) =
       giving_back (value_text x) before
       (show_with before (with_named (attribute_in (value_text x)) (value_text v) a) vs)
+
+  -- what stands in the cells of a table shows, one after the other, where these levels lead from the values down to it
+  pub show_below : List Level → Attrs → WideValues → AllShown
+  show_below levels a none = nothing_shown a
+  show_below [] a (also v none) = one_of (show a v)
+  show_below [] a (also x (also v vs)) = nothing_shown a
+  show_below (Every ∷ levels) a (also (text words at) vs) = show_below (Every ∷ levels) a vs
+  show_below (Every ∷ levels) a (also (made label ws at) vs) =
+      both_shown (show_below levels a ws) (show_below (Every ∷ levels) (show_below levels a ws).after vs)
+  show_below (Final ∷ levels) a (also (text words at) none) = nothing_shown a
+  show_below (Final ∷ levels) a (also (made label ws at) none) = show_below levels a ws
+  show_below (Final ∷ levels) a (also x (also v vs)) = show_below (Final ∷ levels) a (also v vs)
 
 -- ---- units
 

@@ -4,8 +4,10 @@ ghost use Rattle.std.specs.List.{list_any};
 ghost use Rattle.tx_tree.specs.WideTree.{forest, is_leaf};
 ghost use Rattle.tx_origin.specs.Values.{vals, value_parts};
 ghost use Rattle.tx_items.specs.Plans.{plan_of, plans_of, last_plan, joint_plan, part_plan, some_list};
-ghost use Rattle.tx_items.specs.Plans.{line_plan, list_plan};
+ghost use Rattle.tx_items.specs.Plans.{line_plan, list_plan, table_plan};
+ghost use Rattle.tx_items.specs.Flat.{shows_table};
 
+use crate::flat::shows_table;
 use crate::rows::{Row, row_of};
 use std::alloc::Global;
 use std::marker::Model;
@@ -47,7 +49,7 @@ impl Model for Plan {
 
 impl Plan {
     // In a line.
-    fn line() -> Plan
+    pub(crate) fn line() -> Plan
         ensures { result ≡ line_plan }
     {
         Plan { form: Form::Line }
@@ -102,7 +104,19 @@ impl Plan {
             Row::Hspace => Ok(Plan::line()),
             Row::Vspace => Ok(Plan::line()),
             Row::Error => Ok(Plan::line()),
+            Row::Tabular => Plan::table(alloc, value),
             Row::Other => Plan::joint(alloc, value),
+        }
+    }
+
+    // The plan of a `tabular`: its cells are in a line each.
+    fn table(alloc: Global, value: &Value) -> Result<Plan, Memory>
+        ensures { IfOk result (λ p. p ≡ table_plan (shows_table value.now)) }
+    {
+        if shows_table(alloc, value)? {
+            Ok(Plan::list(Vec::new(alloc)))
+        } else {
+            Ok(Plan::line())
         }
     }
 

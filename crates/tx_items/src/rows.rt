@@ -26,6 +26,8 @@ pub(crate) enum Row {
     Vspace,
     // an error
     Error,
+    // a table
+    Tabular,
     // a tag that nothing says how to show
     Other,
 }
@@ -57,6 +59,8 @@ pub(crate) fn row_of(label: &[u8]) -> Row
         Row::Vspace
     } else if label == b"error".as_slice() {
         Row::Error
+    } else if label == b"tabular".as_slice() {
+        Row::Tabular
     } else {
         Row::Other
     }

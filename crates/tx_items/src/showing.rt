@@ -1,5 +1,5 @@
 // What is shown so far, and how a value is added to it.
-ghost use Rattle.std.specs.Prelude.{◌≡◌, ◌≢◌, ◌%◌, ◌++◌, ◌∷◌, [], ℕ, length, IfOk, OnOk, MatchOption, None, Some};
+ghost use Rattle.std.specs.Prelude.{◌≡◌, ◌≢◌, ◌%◌, ◌++◌, ◌∷◌, [], ℕ, length, map, IfOk, OnOk, MatchOption, None, Some};
 ghost use Rattle.std.specs.Prelude.{true, false, codes, option_and_then};
 ghost use Rattle.std.specs.Option.{option_copied};
 ghost use Rattle.tx_prim.specs.Lengths.{length_of};
@@ -14,22 +14,28 @@ ghost use Rattle.tx_items.specs.Rules.{rule_of};
 ghost use Rattle.tx_items.specs.Shows.{in_line, error_items, failed, bad, made_error, with_shown, assign_shown};
 ghost use Rattle.tx_items.specs.Shows.{cells_of_length, space_shown, error_shown, tag_shown, show, show_all, show_with};
 ghost use Rattle.tx_items.specs.Shows.{inline, run_of, empty};
-ghost use Rattle.tx_items.specs.Plans.{plan_of, plans_of, last_plan, joint_plan, list_plan};
+ghost use Rattle.tx_items.specs.Plans.{plan_of, plans_of, last_plan, joint_plan, list_plan, table_plan};
 ghost use Rattle.tx_items.specs.Running.{state_of, attrs_of_first, HasShown, HasRun, HasPars, EndsRun, EndsParagraph};
-ghost use Rattle.tx_items.specs.Running.{HasAttrs, one_of, bar_of, set_by_pairs, given_back_by_pairs, Finishes};
+ghost use Rattle.tx_items.specs.Shows.{one_of};
+ghost use Rattle.tx_items.specs.Running.{HasAttrs, bar_of, set_by_pairs, given_back_by_pairs, Finishes};
 ghost use Rattle.tx_items.specs.Running.{FinishesPart};
-ghost use Rattle.tx_items.specs.Running.{tag_front, space_item, length_alone};
+ghost use Rattle.tx_items.specs.Running.{tag_front, space_item, length_alone, HasCells, HasRows, all_cells};
+ghost use Rattle.tx_items.specs.Running.{AddsParagraphs, table_shown};
+ghost use Rattle.tx_items.specs.Flat.{is_flat, all_flat, shows_table};
+ghost use Rattle.tx_items.specs.Tables.{table_paragraphs};
 
 use crate::attributes::{Attrs, Field, field_of};
 use crate::drawing::{ErrorAt, Item, Look, Paragraph, push_text};
 use crate::plans::Plan;
 use crate::rows::{Row, row_of};
+use crate::tables::{CellItems, RowCells, TableRow, widths_of};
 use crate::words::Word;
 use std::alloc::Global;
 use std::mem;
 use tx_base::Memory;
 use tx_origin::{Ip, Value};
 use tx_prim::{known_text, parse_length};
+use tx_table::{CellRow, SideRow, grid_of, plan_of};
 use tx_tree::{Label, Text};
 
 // The greatest number of cells or lines of a space.
@@ -338,6 +344,7 @@ impl Showing {
             Row::Hspace => self.space(alloc, Space::Across, label, value),
             Row::Vspace => self.space(alloc, Space::Down, label, value),
             Row::Error => self.error(alloc, label, value),
+            Row::Tabular => self.tabular(alloc, label, value, plan),
             Row::Other => self.tag(alloc, label, value, plan),
         }
     }
@@ -448,6 +455,102 @@ impl Showing {
             self.paragraph(alloc, part, plan.part(i))?;
         }
         Ok(())
+    }
+
+    // Shows a value as a cell, and takes its items out of the run.
+    #[tactic(auto, using(crate::proofs::Planning::choosing, std::proofs::lemmas::Grind::common_steps))]
+    #[cycle(show)]
+    fn cell(&mut self, alloc: Global, value: &Value) -> Result<CellItems, Memory>
+        requires { is_flat value.now ≡ true }
+        ensures { IfOk result (λ cell. HasCells (one_of (show self.old.attrs value.now))
+            (state_of self.old) (state_of self.new) (cell ∷ [])) }
+    {
+        self.show(alloc, value, &Plan::line())?;
+        Ok(CellItems::new(mem::replace(&mut self.run, Vec::new(alloc))))
+    }
+
+    // Shows the cells of a row.
+    #[tactic(auto, using(crate::proofs::FlatLoops::cells, std::proofs::lemmas::Grind::common_steps))]
+    #[cycle(show)]
+    fn row(&mut self, alloc: Global, cells: &[Value]) -> Result<RowCells, Memory>
+        requires { all_flat (vals cells.now) ≡ true }
+        ensures { IfOk result (λ row. HasCells (show_all false self.old.attrs (vals cells.now))
+            (state_of self.old) (state_of self.new) row) }
+    {
+        let mut row = Vec::with_capacity(alloc, cells.len())?;
+        for cell in cells {
+            let items = self.cell(alloc, cell)?;
+            row.push(items)?;
+        }
+        Ok(RowCells::new(row))
+    }
+
+    // Shows the cells of rows.
+    #[tactic(auto, using(crate::proofs::FlatLoops::cells, std::proofs::lemmas::Grind::common_steps))]
+    #[cycle(show)]
+    fn rows(&mut self, alloc: Global, rows: &[CellRow]) -> Result<Vec<TableRow>, Memory>
+        requires { all_flat (vals (all_cells rows.now)) ≡ true }
+        ensures { IfOk result (λ shown. HasRows rows.now (state_of self.old) (state_of self.new) shown.items) }
+    {
+        let mut shown = Vec::with_capacity(alloc, rows.len())?;
+        for row in rows {
+            let first = self.attrs.copy()?;
+            let cells = self.row(alloc, row.all())?;
+            shown.push((first, cells))?;
+        }
+        Ok(shown)
+    }
+
+    // Adds rows as paragraphs.
+    fn add_rows(
+        &mut self,
+        alloc: Global,
+        rows: Vec<TableRow>,
+        sides: &[SideRow],
+    ) -> Result<(), Memory>
+        requires { map (λ r. length r.1) rows.items ≡ map length sides.now }
+        ensures { OnOk result (AddsParagraphs (table_paragraphs sides.now rows.items)
+            (state_of self.old) (state_of self.new)) }
+    {
+        let widths = widths_of(alloc, &rows)?;
+        let plan = plan_of(alloc, &widths, sides)?;
+        let mut at = 0;
+        for row in rows {
+            let (first, cells) = row;
+            let items = cells.padded(
+                alloc,
+                plan.columns.all(),
+                plan.left.all()[at].all(),
+                plan.right.all()[at].all(),
+            )?;
+            self.paragraphs.push(Paragraph::new(alloc, items, &first)?)?;
+            at += 1;
+        }
+        Ok(())
+    }
+
+    // Adds a table, or an error where it shows as none.
+    #[tactic(auto, using(crate::proofs::FlatLoops::cells, std::proofs::lemmas::Grind::common_steps))]
+    #[cycle(show)]
+    fn tabular(
+        &mut self,
+        alloc: Global,
+        label: &Label,
+        value: &Value,
+        plan: &Plan,
+    ) -> Result<(), Memory>
+        requires { plan.now ≡ table_plan (shows_table value.now) }
+        ensures { OnOk result (HasShown (table_shown self.old.attrs label.now value.now)
+            (state_of self.old) (state_of self.new)) }
+    {
+        if !plan.is_list() {
+            return self.bad(alloc, label);
+        }
+        let Some(grid) = grid_of(alloc, value)? else {
+            return self.bad(alloc, label);
+        };
+        let rows = self.rows(alloc, grid.rows.all())?;
+        self.add_rows(alloc, rows, grid.sides.all())
     }
 
     // Ends what a unit shows, as a list or in a line.

@@ -19,7 +19,8 @@ use Rattle.tx_layout.specs.declared.measures.Frame.{Frame}
 use Rattle.tx_layout.specs.declared.pieces.Span.{Span}
 use Rattle.tx_layout.specs.declared.layout.Line.{Line}
 use Rattle.tx_layout.specs.Frames.{least_width}
-use Rattle.tx_layout.specs.Words.{cells_across, Blank, IsSpan, SpansFrom}
+use Rattle.tx_items.specs.Cells.{cells_across}
+use Rattle.tx_layout.specs.Words.{Blank, IsSpan, SpansFrom}
 use Rattle.tx_layout.specs.Segments.{piece_of, no_span, lines_of, put_in, are_none, width_at, HasWords}
 use Rattle.tx_layout.specs.Spread.{spread}
 use Rattle.tx_layout.specs.Shapes.{is_break, empty_line, page_ending, with_last, behind_cut, or_empty, is_ink, is_ink_cluster}

@@ -19,7 +19,8 @@ use Rattle.tx_layout.specs.declared.pieces.Span.{Span}
 use Rattle.tx_layout.specs.declared.segments.Row.{Row}
 use Rattle.tx_layout.specs.declared.layout.Line.{Line}
 use Rattle.tx_layout.specs.Frames.{least_width, line_frame, IsFrame}
-use Rattle.tx_layout.specs.Words.{cells_across, capped_item}
+use Rattle.tx_items.specs.Cells.{cells_across}
+use Rattle.tx_layout.specs.Words.{capped_item}
 use Rattle.tx_layout.specs.Segments.{shift, put_in, piece_of, width_at, indent_at, no_span, are_none, line_of, lines_of}
 use Rattle.tx_layout.specs.Spread.{spread}
 use Rattle.tx_layout.specs.Shapes.{is_break, Cutting, Whole, empty_line, page_ending, with_last, behind_cut}

@@ -12,7 +12,8 @@ use Rattle.tx_layout.specs.declared.measures.Frame.{Frame}
 use Rattle.tx_layout.specs.declared.pieces.Span.{Span}
 use Rattle.tx_layout.specs.declared.layout.Line.{Line}
 use Rattle.tx_layout.specs.Frames.{least_width}
-use Rattle.tx_layout.specs.Words.{cells_across, Solid, Blank, Breakable, Unbreakable, IsSpan, SpansFrom}
+use Rattle.tx_items.specs.Cells.{cells_across}
+use Rattle.tx_layout.specs.Words.{Solid, Blank, Breakable, Unbreakable, IsSpan, SpansFrom}
 use Rattle.tx_layout.specs.Segments.{piece_of, width_at, lines_of, HasWords}
 use Rattle.tx_layout.specs.Shapes.{Whole, is_break, behind_cut, or_empty, HasLines, last_segment, then_cut}
 use Rattle.tx_layout.proofs.Slices.{at_slice, at_drop, cells_le}

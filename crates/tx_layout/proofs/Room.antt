@@ -24,7 +24,8 @@ use Rattle.tx_layout.specs.declared.pieces.Span.{Span}
 use Rattle.tx_layout.specs.declared.layout.Line.{Line}
 use Rattle.tx_layout.specs.Frames.{whole_cells, moved_by, has_room, left_margin, right_margin}
 use Rattle.tx_layout.specs.Frames.{line_frame, least_width}
-use Rattle.tx_layout.specs.Words.{item_cells, cells_across, SpansFrom}
+use Rattle.tx_items.specs.Cells.{item_cells, cells_across}
+use Rattle.tx_layout.specs.Words.{SpansFrom}
 use Rattle.tx_layout.specs.Segments.{shift, put_in, piece_of, width_at, indent_at, no_span, are_none, line_of, lines_of}
 use Rattle.tx_layout.specs.Segments.{HasWords}
 use Rattle.tx_layout.specs.Spread.{spaces_among, spread}

@@ -7,7 +7,7 @@ use Rattle.std.proofs.lemmas.List.{drop-take, drop-drop, take-take}
 use Rattle.std.proofs.lemmas.List.Elements.{All-nil, All-cons, All-append}
 use Rattle.std.proofs.lemmas.List.Sums.{sum_by_push, sum_by-take-le}
 use Rattle.tx_items.specs.declared.drawing.Item.{Item}
-use Rattle.tx_layout.specs.Words.{item_cells, cells_across}
+use Rattle.tx_items.specs.Cells.{item_cells, cells_across}
 
 pub slice_push : {X : Type 0} → (xs : List X) (from at : ℕ) (x : X) → from ≤ at → at < length xs → x ≡ get_or xs at x
     → slice_range xs from (at + 1) ≡ slice_range xs from at ++ x ∷ []

@@ -7,7 +7,8 @@ use Rattle.std.proofs.lemmas.List.Sums.{sum_by-cons, sum_by-append}
 use Rattle.std.proofs.lemmas.List.Elements.{filter-append}
 use Rattle.tx_items.specs.declared.drawing.Item.{Item}
 use Rattle.tx_items.specs.declared.drawing.Item.TheVariants.{Gap}
-use Rattle.tx_layout.specs.Words.{cells_across, item_cells, is_blank_item}
+use Rattle.tx_items.specs.Cells.{cells_across, item_cells}
+use Rattle.tx_layout.specs.Words.{is_blank_item}
 use Rattle.tx_layout.specs.Spread.{one_if_blank, spaces_among, gap_of, spread_by, spread}
 
 -- ---- cells

@@ -10,7 +10,8 @@ use Rattle.tx_layout.specs.declared.pieces.Span.{Span}
 use Rattle.tx_layout.specs.declared.segments.Row.{Row}
 use Rattle.tx_layout.specs.declared.layout.Line.{Line}
 use Rattle.tx_layout.specs.Frames.{least_width}
-use Rattle.tx_layout.specs.Words.{cells_across, item_cells, SpansFrom}
+use Rattle.tx_items.specs.Cells.{cells_across, item_cells}
+use Rattle.tx_layout.specs.Words.{SpansFrom}
 use Rattle.tx_layout.specs.Spread.{spread}
 use Rattle.tx_layout.specs.Segments.{shift, put_in, piece_of, width_at, indent_at, no_span, are_none, HasWords}
 use Rattle.tx_layout.specs.Shapes.{behind_cut_by, or_single, or_empty}

@@ -11,7 +11,8 @@ use Rattle.tx_layout.specs.declared.measures.Frame.{Frame}
 use Rattle.tx_layout.specs.declared.pieces.Span.{Span}
 use Rattle.tx_layout.specs.declared.layout.Line.{Line}
 use Rattle.tx_layout.specs.Frames.{least_width}
-use Rattle.tx_layout.specs.Words.{cells_across, SpansFrom}
+use Rattle.tx_items.specs.Cells.{cells_across}
+use Rattle.tx_layout.specs.Words.{SpansFrom}
 use Rattle.tx_layout.specs.Spread.{spread}
 
 -- by how much a line with so many free cells is moved right

@@ -1,8 +1,9 @@
 -- The words of a segment, cut into pieces no wider than the least width, by places.
 use Rattle.std.specs.Prelude.{◌≡◌, ℕ, ◌+◌, ◌-◌, ◌<◌, ◌≤◌, ◌⊎◌, min, Bool, true, false, List, [], ◌∷◌, length, drop}
-use Rattle.std.specs.Prelude.{All, sum_by, slice_range}
+use Rattle.std.specs.Prelude.{All, slice_range}
 use Rattle.tx_items.specs.declared.drawing.Item.{Item}
 use Rattle.tx_items.specs.declared.drawing.Item.TheVariants.{Glyph, Space, Chance, Gap, Break, PageEnd, Down}
+use Rattle.tx_items.specs.Cells.{cells_across}
 use Rattle.tx_layout.specs.declared.pieces.Span.{Span}
 
 -- a gap counts as at most the least width
@@ -14,19 +15,6 @@ capped_item least (Gap n) = Gap (min n least)
 capped_item least Break = Break
 capped_item least PageEnd = PageEnd
 capped_item least (Down n) = Down n
-
--- the cells that an item takes on its line
-abbrev pub item_cells : Item → ℕ
-item_cells (Glyph d) = d.cluster.cells
-item_cells (Space d) = d.cluster.cells
-item_cells (Chance d) = 0
-item_cells (Gap n) = n
-item_cells Break = 0
-item_cells PageEnd = 0
-item_cells (Down n) = 0
-
-abbrev pub cells_across : List Item → ℕ
-cells_across items = sum_by item_cells items
 
 abbrev pub is_blank_item : Item → Bool
 is_blank_item (Glyph d) = false

@@ -12,7 +12,8 @@ ghost use Rattle.tx_layout.specs.declared.measures.Side.TheVariants.{Justify};
 ghost use Rattle.tx_layout.specs.Frames.{side_of};
 ghost use Rattle.tx_layout.specs.Segments.{HasWords, width_at};
 ghost use Rattle.tx_layout.specs.Spread.{spaces_among, gap_of, spread_by, spread};
-ghost use Rattle.tx_layout.specs.Words.{capped_item, cells_across};
+ghost use Rattle.tx_items.specs.Cells.{cells_across};
+ghost use Rattle.tx_layout.specs.Words.{capped_item};
 ghost use Rattle.tx_layout.specs.Shapes.{items_shown, IsShape, is_ink, is_ink_cluster};
 ghost use Rattle.tx_layout.specs.Rows.{IsWithin, line_at};
 

@@ -19,5 +19,6 @@ mod shapes;
 pub use layout::{Line, LineItems, items_kept, lines, one_shape, spread_full, within_page};
 pub use measures::{Frame, Side, line_frame};
 pub use paging::{Paginator, lines_kept, one_paging, pages};
-pub use pieces::{Span, item_cells};
+pub use pieces::Span;
+pub use tx_items::item_cells;
 pub use tx_lines::Cut;

@@ -1,13 +1,14 @@
 // Words of a segment, cut into pieces.
 ghost use Rattle.std.specs.Prelude.{◌≡◌, ◌≤◌, ◌<◌, ◌+◌, ◌-◌, ◌^◌, ◌⊎◌, min, map, length, All, IfOk, slice_range};
-ghost use Rattle.tx_layout.specs.Words.{is_blank_item, is_chance_item, item_cells, cells_across, Solid, Blank};
+ghost use Rattle.tx_items.specs.Cells.{cells_across};
+ghost use Rattle.tx_layout.specs.Words.{is_blank_item, is_chance_item, Solid, Blank};
 ghost use Rattle.tx_layout.specs.Words.{Breakable, Unbreakable, IsSpan, SpansFrom};
 ghost use Rattle.tx_layout.specs.Segments.{piece_of};
 ghost use Rattle.tx_layout.specs.Rows.{Narrow, capped_piece};
 
 use std::alloc::Global;
 use tx_base::Memory;
-use tx_items::Item;
+use tx_items::{Item, item_cells};
 use tx_lines::Piece;
 
 /// Spaces, which may be none, and a piece of a word after them, by the places of items.
@@ -44,22 +45,6 @@ fn is_chance_item(item: &Item) -> bool
     ensures { result ≡ is_chance_item item.now }
 {
     matches!(item, Item::Chance(_))
-}
-
-/// The cells that an item takes on its line: those of its cluster or of its gap, and none for a chance, a break or a
-/// cut.
-pub fn item_cells(item: &Item) -> u32
-    ensures { result ≡ item_cells item.now }
-{
-    match item {
-        Item::Glyph(drawn) => u32::from(drawn.cluster.cells),
-        Item::Space(drawn) => u32::from(drawn.cluster.cells),
-        Item::Chance(_) => 0,
-        Item::Gap(cells) => *cells,
-        Item::Break => 0,
-        Item::PageEnd => 0,
-        Item::Down(_) => 0,
-    }
 }
 
 // The cells of items, or 501 where there are more.

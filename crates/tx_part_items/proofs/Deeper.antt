@@ -1,6 +1,9 @@
 -- A value that stands deeper shows the same, with the items' origins under the path.
-use Rattle.std.proofs.Common.{◌≡◌, ℕ, List, [], ◌∷◌, ◌++◌, map, refl, ap, sym, ◌∙◌}
+use Rattle.std.proofs.Common.{◌≡◌, ℕ, zero, suc, ◌+◌, ◌-◌, List, [], ◌∷◌, ◌++◌, map, take, drop, length, refl, ap, ap₂}
+use Rattle.std.proofs.Common.{sym, ◌∙◌, ◌&&◌, ◌||◌, not, arith}
 use Rattle.std.proofs.lemmas.List.{map-append}
+use Rattle.std.proofs.lemmas.List.Sums.{sum_by-cons}
+use Rattle.std.specs.List.{list_any}
 use Rattle.std.specs.Prelude.{Bool, true, false, if◌then◌else◌, Option, Some, None, ℤ, option_and_then, codes}
 use Rattle.std.specs.Option.{option_map}
 use Rattle.tx_prim.specs.Lengths.{length_of}
@@ -8,12 +11,21 @@ use Rattle.tx_origin.specs.Values.{WideValue, WideValues, text, made, none, also
 use Rattle.tx_origin.specs.Under.{origin_under, value_under, values_under}
 use Rattle.tx_text.specs.declared.cutting.Cluster.{Cluster}
 use Rattle.tx_text.specs.Clusters.{items_of, clusters_of}
+use Rattle.tx_table.specs.declared.grids.Grid.{Grid}
+use Rattle.tx_table.specs.declared.settings.Side.{Side}
+use Rattle.tx_table.specs.Grids.{grid_of}
+use Rattle.tx_table.specs.Columns.{column_widths, left_pad, right_pad}
 use Rattle.tx_items.specs.declared.attributes.Attrs.{Attrs}
 use Rattle.tx_items.specs.declared.drawing.Item.{Item}
-use Rattle.tx_items.specs.declared.drawing.Item.TheVariants.{Glyph, Space, Chance, Gap, Down}
+use Rattle.tx_items.specs.declared.drawing.Item.TheVariants.{Glyph, Space, Chance, Gap, Break, PageEnd, Down}
 use Rattle.tx_items.specs.declared.drawing.Paragraph.{Paragraph}
 use Rattle.tx_items.specs.Attributes.{with_named, attribute_in}
-use Rattle.tx_items.specs.Drawing.{is_space, is_chance, look_of, item_of, drawn}
+use Rattle.tx_items.specs.Cells.{item_cells, cells_across}
+use Rattle.tx_items.specs.Drawing.{is_space, is_chance, look_of, item_of, drawn, paragraph}
+use Rattle.tx_items.specs.Tables.{is_cut, missing_gap, gap_before, cell_items, row_from, ShownRow, row_widths}
+use Rattle.tx_items.specs.Tables.{row_paragraphs, table_paragraphs, Level, Every, Final, levels_of}
+use Rattle.tx_items.specs.Shows.{run_items, items_in, fits_cell, cells_fit, after_each, shown_rows, rows_shown}
+use Rattle.tx_items.specs.Shows.{tabular_shown, show_below, one_of, both_shown}
 use Rattle.tx_items.specs.Rules.{Rule, rule_of}
 use Rattle.tx_items.specs.Rules as rules
 use Rattle.tx_items.specs.Shows.{ItemRun, empty, begun, run_of, beside, whole_run, run_ended, Form, inline, listed}
@@ -23,6 +35,7 @@ use Rattle.tx_items.specs.Shows.{made_error, error_items, failed, bad, with_show
 use Rattle.tx_items.specs.Shows.{space_by}
 use Rattle.tx_items.specs.Shows.{space_shown, error_by, error_shown, made_form, tag_shown, behind_bar, rule_shown}
 use Rattle.tx_items.specs.Shows.{giving_back, show, show_all, show_with, or_one, unit_paragraphs, shown_paragraphs}
+use Rattle.tx_part_items.proofs.GridsUnder.{grid_under}
 use Rattle.tx_part_items.specs.ItemsUnder.{item_under, paragraph_under, run_under, form_under, shown_under}
 use Rattle.tx_part_items.specs.ShownParts.{ShownPart, show_part, paragraphs_in_tree}
 
@@ -284,26 +297,201 @@ module _ (base : List ℕ) where
   with_shown_deeper a label None = bad_deeper a label
   with_shown_deeper a label (Some s) = refl
 
+  -- ---- tables
+
+  under_append : (xs ys : List Item) →
+      map (item_under base) (xs ++ ys) ≡ map (item_under base) xs ++ map (item_under base) ys
+  under_append xs ys = map-append (item_under base) xs ys
+
+  cut_deeper : (x : Item) → is_cut (item_under base x) ≡ is_cut x
+  cut_deeper (Glyph d) = refl
+  cut_deeper (Space d) = refl
+  cut_deeper (Chance d) = refl
+  cut_deeper (Gap n) = refl
+  cut_deeper Break = refl
+  cut_deeper PageEnd = refl
+  cut_deeper (Down n) = refl
+
+  cells_deeper : (x : Item) → item_cells (item_under base x) ≡ item_cells x
+  cells_deeper (Glyph d) = refl
+  cells_deeper (Space d) = refl
+  cells_deeper (Chance d) = refl
+  cells_deeper (Gap n) = refl
+  cells_deeper Break = refl
+  cells_deeper PageEnd = refl
+  cells_deeper (Down n) = refl
+
+  cuts_deeper : (xs : List Item) → list_any is_cut (map (item_under base) xs) ≡ list_any is_cut xs
+  cuts_deeper [] = refl
+  cuts_deeper (x ∷ xs) = ap₂ ◌||◌ (cut_deeper x) (cuts_deeper xs)
+
+  across_deeper : (xs : List Item) → cells_across (map (item_under base) xs) ≡ cells_across xs
+  across_deeper [] = refl
+  across_deeper (x ∷ xs) =
+      omega (
+        arith,
+        sum_by-cons item_cells (item_under base x) (map (item_under base) xs),
+        sum_by-cons item_cells x xs,
+        cells_deeper x,
+        across_deeper xs,
+      )
+
+  run_items_deeper : (r : ItemRun) → run_items (run_under base r) ≡ map (item_under base) (run_items r)
+  run_items_deeper empty = refl
+  run_items_deeper (begun a xs) = refl
+
+  fits_deeper : (x : Form) → fits_cell (form_under base x) ≡ fits_cell x
+  fits_deeper (inline r) = ap (λ xs. not (list_any is_cut xs)) (run_items_deeper r) ∙ ap not (cuts_deeper (run_items r))
+  fits_deeper (listed ps) = refl
+
+  all_fit_deeper : (fs : List (Form × Attrs)) → cells_fit (forms_under fs) ≡ cells_fit fs
+  all_fit_deeper [] = refl
+  all_fit_deeper (f ∷ fs) = ap₂ ◌&&◌ (fits_deeper f.0) (all_fit_deeper fs)
+
+  items_deeper : (x : Form) → items_in (form_under base x) ≡ map (item_under base) (items_in x)
+  items_deeper (inline r) = run_items_deeper r
+  items_deeper (listed ps) = refl
+
+  abbrev cells_under : List (List Item) → List (List Item)
+  cells_under [] = []
+  cells_under (x ∷ xs) = map (item_under base) x ∷ cells_under xs
+
+  abbrev rows_under : List ShownRow → List ShownRow
+  rows_under [] = []
+  rows_under (r ∷ rs) = (r.0, cells_under r.1) ∷ rows_under rs
+
+  taken_deeper : (n : ℕ) (fs : List (Form × Attrs)) →
+      map (λ f. items_in f.0) (take n (forms_under fs)) ≡ cells_under (map (λ f. items_in f.0) (take n fs))
+  taken_deeper zero fs = refl
+  taken_deeper (suc n) [] = refl
+  taken_deeper (suc n) (f ∷ fs) = ap₂ ◌∷◌ (items_deeper f.0) (taken_deeper n fs)
+
+  dropped_deeper : (n : ℕ) (fs : List (Form × Attrs)) → drop n (forms_under fs) ≡ forms_under (drop n fs)
+  dropped_deeper zero fs = refl
+  dropped_deeper (suc n) [] = refl
+  dropped_deeper (suc n) (f ∷ fs) = dropped_deeper n fs
+
+  after_deeper : (n : ℕ) (a : Attrs) (fs : List (Form × Attrs)) →
+      after_each a (take n (forms_under fs)) ≡ after_each a (take n fs)
+  after_deeper zero a fs = refl
+  after_deeper (suc n) a [] = refl
+  after_deeper (suc n) a (f ∷ fs) = after_deeper n f.1 fs
+
+  rows_deeper : (ns : List ℕ) (a : Attrs) (fs : List (Form × Attrs)) →
+      shown_rows ns a (forms_under fs) ≡ rows_under (shown_rows ns a fs)
+  rows_deeper [] a fs = refl
+  rows_deeper (n ∷ ns) a fs =
+      ap₂ {C = List ShownRow} (λ cs rs. (a, cs) ∷ rs) (taken_deeper n fs)
+      (ap₂ (shown_rows ns) (after_deeper n a fs) (dropped_deeper n fs)
+      ∙ rows_deeper ns (after_each a (take n fs)) (drop n fs))
+
+  row_widths_deeper : (cells : List (List Item)) → map cells_across (cells_under cells) ≡ map cells_across cells
+  row_widths_deeper [] = refl
+  row_widths_deeper (x ∷ xs) = ap₂ ◌∷◌ (across_deeper x) (row_widths_deeper xs)
+
+  widths_deeper : (rows : List ShownRow) → row_widths (rows_under rows) ≡ row_widths rows
+  widths_deeper [] = refl
+  widths_deeper (r ∷ rs) = ap₂ ◌∷◌ (row_widths_deeper r.1) (widths_deeper rs)
+
+  missing_deeper : (columns : List ℕ) → map (item_under base) (missing_gap columns) ≡ missing_gap columns
+  missing_deeper [] = refl
+  missing_deeper (n ∷ ns) = refl
+
+  before_deeper : (j : ℕ) → map (item_under base) (gap_before j) ≡ gap_before j
+  before_deeper zero = refl
+  before_deeper (suc j) = refl
+
+  cell_deeper : (s : Side) (n : ℕ) (x : List Item) →
+      cell_items s n (map (item_under base) x) ≡ map (item_under base) (cell_items s n x)
+  cell_deeper s n x =
+      let free : ℕ = n - cells_across x in
+      ap (λ w. Gap (left_pad s (n - w)) ∷ (map (item_under base) x ++ Gap (right_pad s (n - w)) ∷ [])) (across_deeper x)
+      ∙ ap (λ xs. Gap (left_pad s free) ∷ xs) (sym (under_append x (Gap (right_pad s free) ∷ [])))
+
+  row_deeper : (j : ℕ) (columns : List ℕ) (sides : List Side) (cells : List (List Item)) →
+      row_from j columns sides (cells_under cells) ≡ map (item_under base) (row_from j columns sides cells)
+  row_deeper j columns sides [] = sym (missing_deeper columns)
+  row_deeper j [] sides (x ∷ xs) = refl
+  row_deeper j (n ∷ ns) [] (x ∷ xs) = refl
+  row_deeper j (n ∷ ns) (s ∷ ss) (x ∷ xs) =
+      ap₂ {C = List Item} (λ c r. gap_before j ++ c ++ r) (cell_deeper s n x) (row_deeper (j + 1) ns ss xs)
+      ∙ ap (λ g. g ++ map (item_under base) (cell_items s n x) ++ map (item_under base) (row_from (j + 1) ns ss xs))
+      (sym (before_deeper j))
+      ∙ ap (λ g. g ++ map (item_under base) (row_from (j + 1) ns ss xs))
+      (sym (under_append (gap_before j) (cell_items s n x)))
+      ∙ sym (under_append (gap_before j ++ cell_items s n x) (row_from (j + 1) ns ss xs))
+
+  table_deeper : (columns : List ℕ) (sides : List (List Side)) (rows : List ShownRow) →
+      row_paragraphs columns sides (rows_under rows) ≡ map (paragraph_under base) (row_paragraphs columns sides rows)
+  table_deeper columns [] rows = refl
+  table_deeper columns (ss ∷ sides) [] = refl
+  table_deeper columns (ss ∷ sides) (r ∷ rs) =
+      ap₂ {C = List Paragraph} (λ xs ps. paragraph xs r.0 ∷ ps) (row_deeper 0 columns ss r.1)
+      (table_deeper columns sides rs)
+
+  rows_shown_deeper : (a : Attrs) (sides : List (List Side)) (cells : AllShown) →
+      rows_shown a sides (all_under cells) ≡ shown_under base (rows_shown a sides cells)
+  rows_shown_deeper a sides cells =
+      let rows : List ShownRow = shown_rows (map length sides) a cells.each in
+      ap {B = Shown} (λ ps. record { form = listed ps; after = cells.after; errors = cells.errors })
+      (ap (table_paragraphs sides) (rows_deeper (map length sides) a cells.each)
+      ∙ ap (λ ws. row_paragraphs (column_widths ws) sides (rows_under rows)) (widths_deeper rows)
+      ∙ table_deeper (column_widths (row_widths rows)) sides rows)
+
+  tabular_deeper : (a : Attrs) (label : List ℕ) (grid' grid : Option Grid) (cells' cells : AllShown) →
+      option_map (λ g. g.sides) grid' ≡ option_map (λ g. g.sides) grid → cells' ≡ all_under cells →
+      tabular_shown a label grid' cells' ≡ shown_under base (tabular_shown a label grid cells)
+  tabular_deeper a label None None cells' cells e f = bad_deeper a label
+  tabular_deeper a label None (Some g) cells' cells e f = absurd cc
+  tabular_deeper a label (Some g') None cells' cells e f = absurd cc
+  tabular_deeper a label (Some g') (Some g) cells' cells e f =
+      let sides : g'.sides ≡ g.sides = cc in
+      ap (λ c. if cells_fit c.each then rows_shown a g'.sides c else bad a label) f
+      ∙ ap (λ ss. if cells_fit (forms_under cells.each) then rows_shown a ss (all_under cells) else bad a label) sides
+      ∙ ap (λ b. if b then rows_shown a g.sides (all_under cells) else bad a label) (all_fit_deeper cells.each)
+      ∙ pick (cells_fit cells.each)
+    where
+      pick : (b : Bool) → (if b then rows_shown a g.sides (all_under cells) else bad a label) ≡
+          shown_under base (if b then rows_shown a g.sides cells else bad a label)
+      pick true = rows_shown_deeper a g.sides cells
+      pick false = bad_deeper a label
+
+  levels_deeper : (vs : WideValues) → levels_of (values_under base vs) ≡ levels_of vs
+  levels_deeper none = refl
+  levels_deeper (also (text words at) vs) = refl
+  levels_deeper (also (made label ws at) vs) = refl
+
+  forms_both : (xs ys : List (Form × Attrs)) → forms_under xs ++ forms_under ys ≡ forms_under (xs ++ ys)
+  forms_both [] ys = refl
+  forms_both (x ∷ xs) ys = ap (λ fs. (form_under base x.0, x.1) ∷ fs) (forms_both xs ys)
+
+  both_shown_deeper : (x y : AllShown) → both_shown (all_under x) (all_under y) ≡ all_under (both_shown x y)
+  both_shown_deeper x y =
+      ap {B = AllShown} (λ fs. record { each = fs; after = y.after; errors = x.errors ++ y.errors })
+      (forms_both x.each y.each)
+
   rule_deeper : (r : Rule) (a : Attrs) (label : List ℕ) (vs : WideValues) (all' all : Bool → AllShown)
-      (last' last : Option Shown) → ((barred : Bool) → all' barred ≡ all_under (all barred)) →
-      last' ≡ option_map (shown_under base) last → rule_shown r a label (values_under base vs) all' last' ≡
-      shown_under base (rule_shown r a label vs all last)
-  rule_deeper rules.Concat a label vs all' all last' last h k =
+      (last' last : Option Shown) (table' table : Shown) → ((barred : Bool) → all' barred ≡ all_under (all barred)) →
+      last' ≡ option_map (shown_under base) last → table' ≡ shown_under base table →
+      rule_shown r a label (values_under base vs) all' last' table' ≡
+      shown_under base (rule_shown r a label vs all last table)
+  rule_deeper rules.Concat a label vs all' all last' last table' table h k t =
       ap {B = Shown} (λ s. record { form = joined_forms s.each; after = s.after; errors = s.errors }) (h false)
       ∙ concat_deeper (all false)
-  rule_deeper rules.Document a label vs all' all last' last h k =
+  rule_deeper rules.Document a label vs all' all last' last table' table h k t =
       ap {B = Shown} (λ s. record { form = listed (one_by_one s.each); after = s.after; errors = s.errors }) (h false)
       ∙ document_deeper (all false)
-  rule_deeper rules.With a label vs all' all last' last h k =
+  rule_deeper rules.With a label vs all' all last' last table' table h k t =
       ap (with_shown a label) k ∙ with_shown_deeper a label last
-  rule_deeper rules.Assign a label vs all' all last' last h k = assign_deeper a label vs
-  rule_deeper rules.Silent a label vs all' all last' last h k = refl
-  rule_deeper rules.NextLine a label vs all' all last' last h k = refl
-  rule_deeper rules.NewPage a label vs all' all last' last h k = refl
-  rule_deeper rules.Hspace a label vs all' all last' last h k = space_deeper Gap (λ n. refl) a label vs
-  rule_deeper rules.Vspace a label vs all' all last' last h k = space_deeper Down (λ n. refl) a label vs
-  rule_deeper rules.Error a label vs all' all last' last h k = error_shown_deeper a label vs
-  rule_deeper rules.Other a label vs all' all last' last h k =
+  rule_deeper rules.Assign a label vs all' all last' last table' table h k t = assign_deeper a label vs
+  rule_deeper rules.Silent a label vs all' all last' last table' table h k t = refl
+  rule_deeper rules.NextLine a label vs all' all last' last table' table h k t = refl
+  rule_deeper rules.NewPage a label vs all' all last' last table' table h k t = refl
+  rule_deeper rules.Hspace a label vs all' all last' last table' table h k t = space_deeper Gap (λ n. refl) a label vs
+  rule_deeper rules.Vspace a label vs all' all last' last table' table h k t = space_deeper Down (λ n. refl) a label vs
+  rule_deeper rules.Error a label vs all' all last' last table' table h k t = error_shown_deeper a label vs
+  rule_deeper rules.Tabular a label vs all' all last' last table' table h k t = t
+  rule_deeper rules.Other a label vs all' all last' last table' table h k t =
       ap (tag_shown a label) (h true) ∙ tag_deeper a label (all true)
 
   giving_deeper : (name : Option (List ℕ)) (before : Attrs) (o : Option Shown) →
@@ -337,7 +525,14 @@ module _ (base : List ℕ) where
     show_deeper a (made label vs at) =
         rule_deeper (rule_of label) a label vs (λ barred. show_all barred a (values_under base vs))
         (λ barred. show_all barred a vs) (show_with a a (values_under base vs)) (show_with a a vs)
+        (tabular_shown a label (grid_of (value_under base (made label vs at)))
+        (show_below (levels_of (values_under base vs)) a (values_under base vs)))
+        (tabular_shown a label (grid_of (made label vs at)) (show_below (levels_of vs) a vs))
         (λ barred. all_deeper barred a vs) (with_deeper a a vs)
+        (tabular_deeper a label (grid_of (value_under base (made label vs at))) (grid_of (made label vs at))
+        (show_below (levels_of (values_under base vs)) a (values_under base vs)) (show_below (levels_of vs) a vs)
+        (grid_under base (made label vs at))
+        (ap (λ ls. show_below ls a (values_under base vs)) (levels_deeper vs) ∙ below_deeper (levels_of vs) a vs))
 
     all_deeper : (barred : Bool) (a : Attrs) (vs : WideValues) →
         show_all barred a (values_under base vs) ≡ all_under (show_all barred a vs)
@@ -361,6 +556,21 @@ module _ (base : List ℕ) where
         (with_deeper before (with_named (attribute_in (value_text x)) (value_text v) a) vs)
         ∙ giving_deeper (value_text x) before
         (show_with before (with_named (attribute_in (value_text x)) (value_text v) a) vs)
+
+    below_deeper : (levels : List Level) (a : Attrs) (vs : WideValues) →
+        show_below levels a (values_under base vs) ≡ all_under (show_below levels a vs)
+    below_deeper levels a none = refl
+    below_deeper [] a (also v none) = ap one_of (show_deeper a v)
+    below_deeper [] a (also x (also v vs)) = refl
+    below_deeper (Every ∷ levels) a (also (text words at) vs) = below_deeper (Every ∷ levels) a vs
+    below_deeper (Every ∷ levels) a (also (made label ws at) vs) =
+        ap (λ s. both_shown s (show_below (Every ∷ levels) s.after (values_under base vs))) (below_deeper levels a ws)
+        ∙ ap (both_shown (all_under (show_below levels a ws)))
+        (below_deeper (Every ∷ levels) (show_below levels a ws).after vs)
+        ∙ both_shown_deeper (show_below levels a ws) (show_below (Every ∷ levels) (show_below levels a ws).after vs)
+    below_deeper (Final ∷ levels) a (also (text words at) none) = refl
+    below_deeper (Final ∷ levels) a (also (made label ws at) none) = below_deeper levels a ws
+    below_deeper (Final ∷ levels) a (also x (also v vs)) = below_deeper (Final ∷ levels) a (also v vs)
 
   -- ---- units
 

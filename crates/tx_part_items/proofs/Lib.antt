@@ -1,3 +1,4 @@
+mod GridsUnder
 mod Deeper
 mod ByParts
 mod Worked

@@ -14,7 +14,8 @@ use Rattle.tx_layout.specs.declared.measures.Frame.{Frame}
 use Rattle.tx_layout.specs.declared.pieces.Span.{Span}
 use Rattle.tx_layout.specs.declared.layout.Line.{Line}
 use Rattle.tx_layout.specs.Frames.{line_frame, least_width}
-use Rattle.tx_layout.specs.Words.{capped_item, item_cells, cells_across, is_blank_item, is_chance_item, Blank}
+use Rattle.tx_items.specs.Cells.{item_cells, cells_across}
+use Rattle.tx_layout.specs.Words.{capped_item, is_blank_item, is_chance_item, Blank}
 use Rattle.tx_layout.specs.Words.{IsSpan, SpansFrom}
 use Rattle.tx_layout.specs.Spread.{one_if_blank, spaces_among, gap_of, spread_by, spread}
 use Rattle.tx_layout.specs.Segments.{shift, piece_of, width_at, indent_at, line_with, no_span, line_of, lines_of}

@@ -9,7 +9,7 @@ use Rattle.std.proofs.lemmas.List.Concat.{flat_map-append}
 use Rattle.std.proofs.lemmas.Slice.Eq.{bytes_eq-Decides}
 use Rattle.std.specs.Str.{bytes_eq}
 use Rattle.tx_items.specs.declared.drawing.Item.{Item}
-use Rattle.tx_layout.specs.Words.{item_cells}
+use Rattle.tx_items.specs.Cells.{item_cells}
 use Rattle.tx_view_form.specs.Cells.{drawn_in}
 use Rattle.tx_print.specs.Runs.{CellLook, CellRun, item_looks, look_in, same_look, cell_before, runs_from}
 use Rattle.tx_print.specs.Runs.{run_text}

@@ -8,7 +8,7 @@ use Rattle.tx_items.specs.Looks.{WideLook}
 use Rattle.tx_items.specs.declared.drawing.Item.{Item}
 use Rattle.tx_items.specs.declared.drawing.Drawn.{Drawn}
 use Rattle.tx_layout.specs.declared.layout.Line.{Line}
-use Rattle.tx_layout.specs.Words.{item_cells}
+use Rattle.tx_items.specs.Cells.{item_cells}
 use Rattle.tx_view_form.specs.Cells.{drawn_in}
 use Rattle.tx_view_form.specs.Views.{WideView, lines_of}
 use Rattle.tx_print.specs.Lines.{line, shown}

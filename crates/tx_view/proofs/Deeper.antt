@@ -8,7 +8,7 @@ use Rattle.std.proofs.lemmas.Option.{get_or_from_slice_get, slice_get-map}
 use Rattle.tx_items.specs.declared.drawing.Item.{Item}
 use Rattle.tx_items.specs.declared.drawing.Item.TheVariants.{Glyph, Space, Chance, Gap, Break, PageEnd, Down}
 use Rattle.tx_layout.specs.declared.layout.Line.{Line}
-use Rattle.tx_layout.specs.Words.{item_cells}
+use Rattle.tx_items.specs.Cells.{item_cells}
 use Rattle.tx_origin.specs.RelativePlaces.{BasedPlace}
 use Rattle.tx_part_items.specs.ItemsUnder.{item_under}
 use Rattle.tx_part_layout.specs.LinesUnder.{line_under}

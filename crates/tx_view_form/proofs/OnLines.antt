@@ -12,7 +12,8 @@ use Rattle.tx_layout.specs.declared.measures.Frame.{Frame}
 use Rattle.tx_layout.specs.declared.pieces.Span.{Span}
 use Rattle.tx_layout.specs.declared.layout.Line.{Line}
 use Rattle.tx_layout.specs.Frames.{line_frame, least_width}
-use Rattle.tx_layout.specs.Words.{capped_item, cells_across, is_blank_item}
+use Rattle.tx_items.specs.Cells.{cells_across}
+use Rattle.tx_layout.specs.Words.{capped_item, is_blank_item}
 use Rattle.tx_layout.specs.Segments.{put_in, width_at, no_span, are_none, line_of, lines_of, HasWords}
 use Rattle.tx_layout.specs.Spread.{spaces_among, gap_of, spread_by, spread}
 use Rattle.tx_layout.specs.Shapes.{empty_line, page_ending, with_last, behind_cut, or_empty, HasLines, last_segment}

@@ -1,10 +1,14 @@
 -- What holds of each item that a value shows, where it holds of the clusters of the value's texts, of those of text
 -- without a place, and of items that are no clusters.
-use Rattle.std.proofs.Common.{ℕ, Bool, true, false, cond, List, [], ◌∷◌, ◌++◌, Option, Some, None}
+use Rattle.std.proofs.Common.{ℕ, zero, suc, ◌+◌, ◌-◌, map, take, drop, length, Bool, true, false, cond, List, [], ◌∷◌, ◌++◌, Option, Some, None}
 use Rattle.std.specs.Prelude.{All, codes, ℤ, option_and_then}
 use Rattle.std.proofs.lemmas.List.Elements.{All-nil, All-cons, All-append}
 use Rattle.tx_prim.specs.Lengths.{length_of}
 use Rattle.tx_origin.specs.Values.{WideValue, WideValues, text, made, none, also, value_text}
+use Rattle.tx_table.specs.declared.grids.Grid.{Grid}
+use Rattle.tx_table.specs.declared.settings.Side.{Side}
+use Rattle.tx_table.specs.Grids.{grid_of}
+use Rattle.tx_table.specs.Columns.{column_widths, left_pad, right_pad, across}
 use Rattle.tx_items.specs.declared.attributes.Attrs.{Attrs}
 use Rattle.tx_items.specs.declared.drawing.Item.{Item}
 use Rattle.tx_items.specs.declared.drawing.Item.TheVariants.{Gap, Break, PageEnd, Down}
@@ -12,6 +16,11 @@ use Rattle.tx_items.specs.declared.drawing.Paragraph.{Paragraph}
 use Rattle.tx_items.specs.Attributes.{with_named, attribute_in}
 use Rattle.tx_items.specs.Drawing.{drawn, paragraph}
 use Rattle.tx_items.specs.Rules.{Rule, rule_of}
+use Rattle.tx_items.specs.Cells.{cells_across}
+use Rattle.tx_items.specs.Tables.{missing_gap, gap_before, cell_items, row_from, row_items, ShownRow, row_widths}
+use Rattle.tx_items.specs.Tables.{row_paragraphs, Level, Every, Final, levels_of}
+use Rattle.tx_items.specs.Shows.{items_in, after_each, shown_rows, rows_shown, cells_fit, bad, tabular_shown}
+use Rattle.tx_items.specs.Shows.{show_below}
 use Rattle.tx_items.specs.Rules as rules
 use Rattle.tx_items.specs.Shows.{ItemRun, empty, begun, run_of, beside, whole_run, run_ended, Form, inline, listed}
 use Rattle.tx_items.specs.Shows.{Shown}
@@ -182,20 +191,106 @@ module _ (T : List ℕ → Option (List ℕ) → Type 0) (P : Item → Type 0) (
   one_item : (a : Attrs) (x : Item) → P x → OfRun (run_of a (x ∷ []))
   one_item a x h = All-cons P x [] h (All-nil P)
 
+  -- ---- tables
+
+  abbrev OfCells : List (List Item) → Type 0
+  OfCells [] = Unit {0}
+  OfCells (x ∷ xs) = All P x × OfCells xs
+
+  abbrev OfRows : List ShownRow → Type 0
+  OfRows [] = Unit {0}
+  OfRows (row ∷ rows) = OfCells row.1 × OfRows rows
+
+  cell_holds : (x : Form) → OfForm x → All P (items_in x)
+  cell_holds (inline empty) h = All-nil P
+  cell_holds (inline (begun a xs)) h = h
+  cell_holds (listed ps) h = All-nil P
+
+  taken_holds : (n : ℕ) (fs : List (Form × Attrs)) → OfForms fs → OfCells (map (λ f. items_in f.0) (take n fs))
+  taken_holds zero fs h = tt
+  taken_holds (suc n) [] h = tt
+  taken_holds (suc n) (f ∷ fs) h = (cell_holds f.0 h.0, taken_holds n fs h.1)
+
+  dropped_holds : (n : ℕ) (fs : List (Form × Attrs)) → OfForms fs → OfForms (drop n fs)
+  dropped_holds zero fs h = h
+  dropped_holds (suc n) [] h = tt
+  dropped_holds (suc n) (f ∷ fs) h = dropped_holds n fs h.1
+
+  rows_holds : (ns : List ℕ) (a : Attrs) (fs : List (Form × Attrs)) → OfForms fs → OfRows (shown_rows ns a fs)
+  rows_holds [] a fs h = tt
+  rows_holds (n ∷ ns) a fs h =
+      (taken_holds n fs h, rows_holds ns (after_each a (take n fs)) (drop n fs) (dropped_holds n fs h))
+
+  gap_holds : (n : ℕ) (xs : List Item) → All P xs → All P (Gap n ∷ xs)
+  gap_holds n xs h = All-cons P (Gap n) xs (enough.of_gap n) h
+
+  missing_holds : (columns : List ℕ) → All P (missing_gap columns)
+  missing_holds [] = All-nil P
+  missing_holds (n ∷ ns) = gap_holds (2 + across (n ∷ ns)) [] (All-nil P)
+
+  before_holds : (j : ℕ) → All P (gap_before j)
+  before_holds zero = All-nil P
+  before_holds (suc j) = gap_holds 2 [] (All-nil P)
+
+  padded_holds : (s : Side) (n : ℕ) (x : List Item) → All P x → All P (cell_items s n x)
+  padded_holds s n x h =
+      let free : ℕ = n - cells_across x in
+      gap_holds (left_pad s free) (x ++ Gap (right_pad s free) ∷ [])
+      (All-append P x (Gap (right_pad s free) ∷ []) h
+      (gap_holds (right_pad s free) [] (All-nil P)))
+
+  row_holds : (j : ℕ) (columns : List ℕ) (sides : List Side) (cells : List (List Item)) → OfCells cells
+      → All P (row_from j columns sides cells)
+  row_holds j columns sides [] h = missing_holds columns
+  row_holds j [] sides (x ∷ xs) h = All-nil P
+  row_holds j (n ∷ ns) [] (x ∷ xs) h = All-nil P
+  row_holds j (n ∷ ns) (s ∷ ss) (x ∷ xs) h =
+      All-append P (gap_before j ++ cell_items s n x) (row_from (j + 1) ns ss xs)
+      (All-append P (gap_before j) (cell_items s n x) (before_holds j) (padded_holds s n x h.0))
+      (row_holds (j + 1) ns ss xs h.1)
+
+  table_holds : (columns : List ℕ) (sides : List (List Side)) (rows : List ShownRow) → OfRows rows
+      → OfPars (row_paragraphs columns sides rows)
+  table_holds columns [] rows h = All-nil (λ p. All P p.items)
+  table_holds columns (ss ∷ sides) [] h = All-nil (λ p. All P p.items)
+  table_holds columns (ss ∷ sides) (row ∷ rows) h =
+      pars_append (paragraph (row_items columns ss row.1) row.0 ∷ []) (row_paragraphs columns sides rows)
+      (one_paragraph (row_items columns ss row.1) row.0 (row_holds 0 columns ss row.1 h.0))
+      (table_holds columns sides rows h.1)
+
+  tabular_holds : (a : Attrs) (label : List ℕ) (grid : Option Grid) (cells : AllShown) → OfForms cells.each
+      → OfForm (tabular_shown a label grid cells).form
+  tabular_holds a label None cells h = bad_holds a label
+  tabular_holds a label (Some grid) cells h = pick (cells_fit cells.each)
+    where
+      rows : List ShownRow
+      rows = shown_rows (map length grid.sides) a cells.each
+
+      pick : (b : Bool) → OfForm (cond b (rows_shown a grid.sides cells) (bad a label)).form
+      pick true =
+          table_holds (column_widths (row_widths rows)) grid.sides rows
+          (rows_holds (map length grid.sides) a cells.each h)
+      pick false = bad_holds a label
+
+  forms_both : (xs ys : List (Form × Attrs)) → OfForms xs → OfForms ys → OfForms (xs ++ ys)
+  forms_both [] ys h k = k
+  forms_both (x ∷ xs) ys h k = (h.0, forms_both xs ys h.1 k)
+
   rule_holds : (r : Rule) (a : Attrs) (label : List ℕ) (vs : WideValues) (all : Bool → AllShown) (last : Option Shown)
-      → ((barred : Bool) → OfForms (all barred).each) → OfForm (with_shown a label last).form
-      → OfForm (rule_shown r a label vs all last).form
-  rule_holds rules.Concat a label vs all last h k = joined_holds (all false).each (h false)
-  rule_holds rules.Document a label vs all last h k = one_holds (all false).each (h false)
-  rule_holds rules.With a label vs all last h k = k
-  rule_holds rules.Assign a label vs all last h k = assign_holds a label vs
-  rule_holds rules.Silent a label vs all last h k = tt
-  rule_holds rules.NextLine a label vs all last h k = one_item a Break enough.of_break
-  rule_holds rules.NewPage a label vs all last h k = one_item a PageEnd enough.of_page_end
-  rule_holds rules.Hspace a label vs all last h k = space_holds Gap enough.of_gap a label vs
-  rule_holds rules.Vspace a label vs all last h k = space_holds Down enough.of_down a label vs
-  rule_holds rules.Error a label vs all last h k = error_shown_holds a label vs
-  rule_holds rules.Other a label vs all last h k = tag_holds a label (all true) (h true)
+      (table : Shown) → ((barred : Bool) → OfForms (all barred).each) → OfForm (with_shown a label last).form
+      → OfForm table.form → OfForm (rule_shown r a label vs all last table).form
+  rule_holds rules.Concat a label vs all last table h k t = joined_holds (all false).each (h false)
+  rule_holds rules.Document a label vs all last table h k t = one_holds (all false).each (h false)
+  rule_holds rules.With a label vs all last table h k t = k
+  rule_holds rules.Assign a label vs all last table h k t = assign_holds a label vs
+  rule_holds rules.Silent a label vs all last table h k t = tt
+  rule_holds rules.NextLine a label vs all last table h k t = one_item a Break enough.of_break
+  rule_holds rules.NewPage a label vs all last table h k t = one_item a PageEnd enough.of_page_end
+  rule_holds rules.Hspace a label vs all last table h k t = space_holds Gap enough.of_gap a label vs
+  rule_holds rules.Vspace a label vs all last table h k t = space_holds Down enough.of_down a label vs
+  rule_holds rules.Error a label vs all last table h k t = error_shown_holds a label vs
+  rule_holds rules.Tabular a label vs all last table h k t = t
+  rule_holds rules.Other a label vs all last table h k t = tag_holds a label (all true) (h true)
 
   giving_holds : (name : Option (List ℕ)) (before a : Attrs) (label : List ℕ) (o : Option Shown)
       → OfForm (with_shown a label o).form → OfForm (with_shown a label (giving_back name before o)).form
@@ -209,7 +304,10 @@ module _ (T : List ℕ → Option (List ℕ) → Type 0) (P : Item → Type 0) (
     show_holds a (text words at) h = run_holds a (drawn a at words) (enough.of_text a words at h)
     show_holds a (made label vs at) h =
         rule_holds (rule_of label) a label vs (λ barred. show_all barred a vs) (show_with a a vs)
+        (tabular_shown a label (grid_of (made label vs at)) (show_below (levels_of vs) a vs))
         (λ barred. all_holds barred a vs h) (last_holds a label a a vs h)
+        (tabular_holds a label (grid_of (made label vs at)) (show_below (levels_of vs) a vs)
+        (below_holds (levels_of vs) a vs h))
 
     all_holds : (barred : Bool) (a : Attrs) (vs : WideValues) → EachTexts T vs → OfForms (show_all barred a vs).each
     all_holds barred a none h = tt
@@ -227,6 +325,19 @@ module _ (T : List ℕ → Option (List ℕ) → Type 0) (P : Item → Type 0) (
         giving_holds (value_text x) before c label
         (show_with before (with_named (attribute_in (value_text x)) (value_text v) a) vs)
         (last_holds c label before (with_named (attribute_in (value_text x)) (value_text v) a) vs h.1.1)
+
+    below_holds : (levels : List Level) (a : Attrs) (vs : WideValues) → EachTexts T vs
+        → OfForms (show_below levels a vs).each
+    below_holds levels a none h = tt
+    below_holds [] a (also v none) h = (show_holds a v h.0, tt)
+    below_holds [] a (also x (also v vs)) h = tt
+    below_holds (Every ∷ levels) a (also (text words at) vs) h = below_holds (Every ∷ levels) a vs h.1
+    below_holds (Every ∷ levels) a (also (made label ws at) vs) h =
+        forms_both (show_below levels a ws).each (show_below (Every ∷ levels) (show_below levels a ws).after vs).each
+        (below_holds levels a ws h.0) (below_holds (Every ∷ levels) (show_below levels a ws).after vs h.1)
+    below_holds (Final ∷ levels) a (also (text words at) none) h = tt
+    below_holds (Final ∷ levels) a (also (made label ws at) none) h = below_holds levels a ws h.0
+    below_holds (Final ∷ levels) a (also x (also v vs)) h = below_holds (Final ∷ levels) a (also v vs) h.1
 
   or_one_holds : (end : Attrs) (ps : List Paragraph) → OfPars ps → OfPars (or_one end ps)
   or_one_holds end [] h = one_paragraph [] end (All-nil P)

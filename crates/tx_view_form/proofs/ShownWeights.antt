@@ -1,11 +1,14 @@
 -- A well formed value weighs at most 242 for each unit of its size.
-use Rattle.std.proofs.Common.{◌≡◌, ℕ, ◌+◌, ◌*◌, ◌≤◌, Bool, true, false, List, [], ◌∷◌, ◌++◌, length, codes}
+use Rattle.std.proofs.Common.{◌≡◌, ℕ, ◌+◌, ◌*◌, ◌≤◌, Bool, true, false, cond, List, [], ◌∷◌, ◌++◌, map, length, codes}
 use Rattle.std.proofs.Common.{refl, ap, arith, Option, Some, None, ℤ, pos, negsuc, subst, sym}
 use Rattle.tx_prim.specs.Lengths.{length_of}
 use Rattle.tx_tree.specs.WideTree.{size_of, total_size}
 use Rattle.tx_tree.specs.Labels.{IsLabel}
 use Rattle.tx_tree.specs.Limits.{IsWellFormed, AreWellFormed}
 use Rattle.tx_origin.specs.Values.{WideValue, WideValues, text, made, none, also, value_text, plain, plains}
+use Rattle.tx_table.specs.declared.grids.Grid.{Grid}
+use Rattle.tx_table.specs.Grids.{grid_of}
+use Rattle.tx_table.specs.Columns.{column_widths}
 use Rattle.tx_items.specs.declared.attributes.Attrs.{Attrs}
 use Rattle.tx_items.specs.declared.drawing.Item.{Item}
 use Rattle.tx_items.specs.declared.drawing.Item.TheVariants.{Gap, Break, PageEnd, Down}
@@ -16,12 +19,16 @@ use Rattle.tx_items.specs.Rules as rules
 use Rattle.tx_items.specs.Shows.{run_of, Form, inline, Shown, AllShown, error_items, with_shown, assign_shown}
 use Rattle.tx_items.specs.Shows.{cells_of_length, space_by, space_shown, error_shown, made_form, tag_shown, rule_shown}
 use Rattle.tx_items.specs.Shows.{giving_back, show, show_all, show_with, shown_paragraphs}
+use Rattle.tx_items.specs.Tables.{ShownRow, row_widths, Level, Every, Final, levels_of}
+use Rattle.tx_items.specs.Shows.{bad, cells_fit, shown_rows, rows_shown, tabular_shown, show_below}
+use Rattle.tx_items.proofs.Below.{AreSome, sum_of, cells_known}
 use Rattle.tx_view_form.specs.Outcomes.{over_value}
 use Rattle.tx_view_form.specs.Weights.{item_weight, items_weight, weight_of}
 use Rattle.tx_view_form.proofs.ClusterCounts.{shown_length, drawn_weight, most_shown, label_shown, less_mark, less, gtr}
 use Rattle.tx_view_form.proofs.ClusterCounts.{bar, space, bad_kind, over_kind}
 use Rattle.tx_view_form.proofs.FormWeights.{run_weight, form_weight, forms_weight, items_both, one_item, run_of_weight}
-use Rattle.tx_view_form.proofs.FormWeights.{one_weight, joined_weight, forms_behind, unit_weight}
+use Rattle.tx_view_form.proofs.FormWeights.{one_weight, joined_weight, forms_behind, unit_weight, cells_weight}
+use Rattle.tx_view_form.proofs.FormWeights.{cells_both, rows_weight}
 
 -- a form of a value of this size, with a paragraph round it and another one for a bar before it
 abbrev Fits : Form → ℕ → Type 0
@@ -141,21 +148,47 @@ tag_weight a label all n h k =
     joined_weight (made_form a (begins ++ named) ∷ (all.each ++ made_form all.after ends ∷ [])) in
     omega (arith, less, gtr, label_shown label h)
 
+tabular_weight : (a : Attrs) (label : List ℕ) (v : WideValue) (cells : AllShown) (n : ℕ) → IsLabel label
+    → ((grid : Grid) → grid_of v ≡ Some grid
+    → (AreSome (map length grid.sides)) × (length cells.each ≡ sum_of (map length grid.sides)))
+    → cells_weight cells.each ≤ 1 + 242 * n → Fits (tabular_shown a label (grid_of v) cells).form (1 + n)
+tabular_weight a label v cells n l known h = pick (grid_of v) refl
+  where
+    pick : (grid : Option Grid) → grid_of v ≡ grid → Fits (tabular_shown a label grid cells).form (1 + n)
+    pick None e = bad_weight a label n l
+    pick (Some grid) e = fit (cells_fit cells.each)
+      where
+        rows : List ShownRow
+        rows = shown_rows (map length grid.sides) a cells.each
+
+        fit : (b : Bool) → Fits (cond b (rows_shown a grid.sides cells) (bad a label)).form (1 + n)
+        fit true =
+            omega (
+              arith,
+              h,
+              rows_weight (column_widths (row_widths rows)) grid.sides (map length grid.sides) a cells.each
+                  (known grid e).0 (known grid e).1,
+            )
+        fit false = bad_weight a label n l
+
 rule_weight : (r : Rule) (a : Attrs) (label : List ℕ) (vs : WideValues) (all : Bool → AllShown) (last : Option Shown)
-    → IsLabel label → ((barred : Bool) → forms_weight (all barred).each ≤ 242 * total_size (plains vs))
+    (table : Shown) → IsLabel label → ((barred : Bool) → forms_weight (all barred).each ≤ 242 * total_size (plains vs))
     → Fits (with_shown a label last).form (1 + total_size (plains vs))
-    → Fits (rule_shown r a label vs all last).form (1 + total_size (plains vs))
-rule_weight rules.Concat a label vs all last l h k = omega (arith, joined_weight (all false).each, h false)
-rule_weight rules.Document a label vs all last l h k = omega (arith, one_weight (all false).each, h false)
-rule_weight rules.With a label vs all last l h k = k
-rule_weight rules.Assign a label vs all last l h k = assign_weight a label vs (total_size (plains vs)) l
-rule_weight rules.Silent a label vs all last l h k = omega arith
-rule_weight rules.NextLine a label vs all last l h k = omega (arith, one_item Break)
-rule_weight rules.NewPage a label vs all last l h k = omega (arith, one_item PageEnd)
-rule_weight rules.Hspace a label vs all last l h k = space_weight Gap (λ n. omega arith) a label vs l
-rule_weight rules.Vspace a label vs all last l h k = space_weight Down (λ n. omega arith) a label vs l
-rule_weight rules.Error a label vs all last l h k = error_shown_weight a label vs l
-rule_weight rules.Other a label vs all last l h k = tag_weight a label (all true) (total_size (plains vs)) l (h true)
+    → Fits table.form (1 + total_size (plains vs))
+    → Fits (rule_shown r a label vs all last table).form (1 + total_size (plains vs))
+rule_weight rules.Concat a label vs all last table l h k t = omega (arith, joined_weight (all false).each, h false)
+rule_weight rules.Document a label vs all last table l h k t = omega (arith, one_weight (all false).each, h false)
+rule_weight rules.With a label vs all last table l h k t = k
+rule_weight rules.Assign a label vs all last table l h k t = assign_weight a label vs (total_size (plains vs)) l
+rule_weight rules.Silent a label vs all last table l h k t = omega arith
+rule_weight rules.NextLine a label vs all last table l h k t = omega (arith, one_item Break)
+rule_weight rules.NewPage a label vs all last table l h k t = omega (arith, one_item PageEnd)
+rule_weight rules.Hspace a label vs all last table l h k t = space_weight Gap (λ n. omega arith) a label vs l
+rule_weight rules.Vspace a label vs all last table l h k t = space_weight Down (λ n. omega arith) a label vs l
+rule_weight rules.Error a label vs all last table l h k t = error_shown_weight a label vs l
+rule_weight rules.Tabular a label vs all last table l h k t = t
+rule_weight rules.Other a label vs all last table l h k t =
+    tag_weight a label (all true) (total_size (plains vs)) l (h true)
 
 giving_weight : (name : Option (List ℕ)) (before a : Attrs) (label : List ℕ) (o : Option Shown) (m n : ℕ) → m ≤ n
     → Fits (with_shown a label o).form m → Fits (with_shown a label (giving_back name before o)).form n
@@ -175,8 +208,11 @@ mutual
   show_weight : (a : Attrs) (v : WideValue) → IsWellFormed (plain v) → Fits (show a v).form (size_of (plain v))
   show_weight a (text words at) h = text_weight a at words
   show_weight a (made label vs at) h =
-      rule_weight (rule_of label) a label vs (λ barred. show_all barred a vs) (show_with a a vs) h.0
+      rule_weight (rule_of label) a label vs (λ barred. show_all barred a vs) (show_with a a vs)
+      (tabular_shown a label (grid_of (made label vs at)) (show_below (levels_of vs) a vs)) h.0
       (λ barred. all_weight barred a vs h.1) (last_weight a label a a vs h.0 h.1)
+      (tabular_weight a label (made label vs at) (show_below (levels_of vs) a vs) (total_size (plains vs)) h.0
+      (cells_known a label vs at) (below_weight (levels_of vs) a vs h.1))
 
   all_weight : (barred : Bool) (a : Attrs) (vs : WideValues) → AreWellFormed (plains vs)
       → forms_weight (show_all barred a vs).each ≤ 242 * total_size (plains vs)
@@ -207,6 +243,34 @@ mutual
       (show_with before (with_named (attribute_in (value_text x)) (value_text v) a) vs) (1 + total_size (plains vs))
       (1 + total_size (plains (also x (also v vs)))) (omega arith)
       (last_weight c label before (with_named (attribute_in (value_text x)) (value_text v) a) vs l h.1.1)
+
+  below_weight : (levels : List Level) (a : Attrs) (vs : WideValues) → AreWellFormed (plains vs)
+      → cells_weight (show_below levels a vs).each ≤ 1 + 242 * total_size (plains vs)
+  below_weight levels a none h = omega arith
+  below_weight [] a (also v none) h =
+      let own : Fits (show a v).form (size_of (plain v)) = show_weight a v h.0 in
+      omega arith
+  below_weight [] a (also x (also v vs)) h = omega arith
+  below_weight (Every ∷ levels) a (also (text words at) vs) h =
+      let rest : cells_weight (show_below (Every ∷ levels) a vs).each ≤ 1 + 242 * total_size (plains vs) =
+      below_weight (Every ∷ levels) a vs h.1 in
+      omega arith
+  below_weight (Every ∷ levels) a (also (made label ws at) vs) h =
+      let b : Attrs = (show_below levels a ws).after in
+      let own : cells_weight (show_below levels a ws).each ≤ 1 + 242 * total_size (plains ws) =
+      below_weight levels a ws h.0.1 in
+      let rest : cells_weight (show_below (Every ∷ levels) b vs).each ≤ 1 + 242 * total_size (plains vs) =
+      below_weight (Every ∷ levels) b vs h.1 in
+      omega (arith, cells_both (show_below levels a ws).each (show_below (Every ∷ levels) b vs).each)
+  below_weight (Final ∷ levels) a (also (text words at) none) h = omega arith
+  below_weight (Final ∷ levels) a (also (made label ws at) none) h =
+      let own : cells_weight (show_below levels a ws).each ≤ 1 + 242 * total_size (plains ws) =
+      below_weight levels a ws h.0.1 in
+      omega arith
+  below_weight (Final ∷ levels) a (also x (also v vs)) h =
+      let rest : cells_weight (show_below (Final ∷ levels) a (also v vs)).each
+      ≤ 1 + 242 * total_size (plains (also v vs)) = below_weight (Final ∷ levels) a (also v vs) h.1 in
+      omega arith
 
 pub value_weight : (a : Attrs) (v : WideValue) → IsWellFormed (plain v)
     → weight_of (shown_paragraphs a v) ≤ 242 * size_of (plain v)

@@ -5,7 +5,7 @@ use Rattle.tx_items.specs.declared.drawing.Drawn.{Drawn}
 use Rattle.tx_items.specs.declared.drawing.Item.{Item}
 use Rattle.tx_items.specs.declared.drawing.Item.TheVariants.{Glyph, Space, Chance, Gap, Break, PageEnd, Down}
 use Rattle.tx_layout.specs.declared.layout.Line.{Line}
-use Rattle.tx_layout.specs.Words.{item_cells}
+use Rattle.tx_items.specs.Cells.{item_cells}
 use Rattle.tx_view_form.specs.Views.{UnitView}
 
 -- the unit in which a row of all stands, and the number of the row in it

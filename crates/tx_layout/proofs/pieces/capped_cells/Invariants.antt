@@ -1,5 +1,5 @@
 use Rattle.std.proofs.Common.{◌≡◌, ◌+◌, ◌≤◌, drop, min}
-use Rattle.tx_layout.specs.Words.{cells_across}
+use Rattle.tx_items.specs.Cells.{cells_across}
 use Rattle.tx_layout.proofs.pieces.capped_cells.Given as goal
 
 abbrev pub invariant-loop-item : goal.invariant-loop-item

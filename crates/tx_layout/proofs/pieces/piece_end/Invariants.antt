@@ -1,6 +1,7 @@
 use Rattle.std.proofs.Common.{◌≡◌, ◌-◌, ◌<◌, ◌≤◌, length}
 use Rattle.std.specs.Prelude.{slice_range, All}
-use Rattle.tx_layout.specs.Words.{Solid, Unbreakable, cells_across}
+use Rattle.tx_items.specs.Cells.{cells_across}
+use Rattle.tx_layout.specs.Words.{Solid, Unbreakable}
 use Rattle.tx_layout.proofs.pieces.piece_end.Given as goal
 
 abbrev pub invariant-loop-end : goal.invariant-loop-end

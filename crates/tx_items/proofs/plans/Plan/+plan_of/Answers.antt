@@ -71,3 +71,9 @@ of-returns-in-Error t c =
     c.line-in-Error.ensures
     ∙ sym (plan_row c.args.value.now _ rules.Error c.in-Some.ensures
     (c.in-Error.ensures ∙ ap rule_of c.bytes.ensures.bytes))
+
+pub of-returns-in-Tabular : goal.of-returns-in-Tabular
+of-returns-in-Tabular t c =
+    let row = plan_row c.args.value.now _ rules.Tabular c.in-Some.ensures
+    (c.in-Tabular.ensures ∙ ap rule_of c.bytes.ensures.bytes) in
+    IfOk-weaker c.table.result _ _ (λ p is. is ∙ sym row) c.table.ensures

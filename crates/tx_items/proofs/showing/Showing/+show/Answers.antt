@@ -132,6 +132,13 @@ show-returns-in-Error t c =
     (c.in-Error.ensures ∙ ap rule_of c.bytes.ensures.bytes) in
     on_ok_weaker c.error.result (λ h. subst P (sym row) h) c.error.ensures
 
+pub show-returns-in-Tabular : goal.show-returns-in-Tabular
+show-returns-in-Tabular t c =
+    let P : Shown → Type 0 = λ x. HasShown x (state_of c.args.self.now) (state_of c.tabular.new.self) in
+    let row = show_row c.args.self.now.attrs c.args.value.now _ rules.Tabular c.in-Some-label.ensures
+    (c.in-Tabular.ensures ∙ ap rule_of c.bytes.ensures.bytes) in
+    on_ok_weaker c.tabular.result (λ h. subst P (sym row) h) c.tabular.ensures
+
 pub show-returns-in-Other : goal.show-returns-in-Other
 show-returns-in-Other t c =
     let P : Shown → Type 0 = λ x. HasShown x (state_of c.args.self.now) (state_of c.tag.new.self) in
