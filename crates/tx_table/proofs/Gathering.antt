@@ -1,14 +1,16 @@
 -- Lists that are made element by element.
 use Rattle.std.proofs.Common.{◌≡◌, ℕ, ◌+◌, ◌<◌, ◌≤◌, List, [], ◌∷◌, ◌++◌, length, get_or, drop, Option, Some, None, map}
-use Rattle.std.proofs.Common.{refl, sym, ap, ◌∙◌, append_assoc, arith, suc, ◌-◌, ◌≢◌, take, cond, true, false}
-use Rattle.std.proofs.lemmas.List.{drop_more, drop_all, append-nil}
+use Rattle.std.proofs.Common.{refl, sym, ap, ◌∙◌, append_assoc, arith, suc, ◌-◌, ◌≢◌, take, cond, Bool, true, false}
+use Rattle.std.proofs.lemmas.List.{drop_more, drop_all, append-nil, nil_from_length}
 use Rattle.std.specs.Option.{option_map}
 use Rattle.std.specs.List.{filter_map, enumerate_from, cons_option}
 use Rattle.std.specs.Prelude.{max, codes, option_and_then, if◌then◌else◌, slice_get}
-use Rattle.tx_origin.specs.Values.{WideValue}
+use Rattle.tx_origin.specs.Values.{WideValue, text, made, each_of}
 use Rattle.tx_table.specs.Settings.{parts_if, setting_from, setting_by, span_of, side_in, is_text}
 use Rattle.tx_table.specs.Grids.{all_some, column_count, last_of, before_last}
-use Rattle.tx_table.specs.Grids.{format_with, format_grid, table_grid}
+use Rattle.tx_table.specs.declared.grids.Grid.{Grid}
+use Rattle.tx_table.specs.Grids.{format_grid, table_grid}
+use Rattle.std.specs.Str.{bytes_eq}
 
 front_some : {Y : Type 0} → (y : Y) (ys : List Y) (o : Option (List Y))
     → option_map (λ zs. ys ++ zs) (option_map (λ zs. y ∷ zs) o) ≡ option_map (λ zs. (ys ++ y ∷ []) ++ zs) o
@@ -180,9 +182,42 @@ front_is (v ∷ (w ∷ ws)) =
     let n : length (v ∷ (w ∷ ws)) - 1 ≡ suc (length (w ∷ ws) - 1) = omega arith in
     ap (λ l. v ∷ l) (front_is (w ∷ ws)) ∙ sym (ap (λ k. take k (v ∷ (w ∷ ws))) n)
 
+-- the grid of a value that is a `tformat` with these parts, or none
+format_with : WideValue → Option (List WideValue) → Option Grid
+format_with v None = table_grid [] v
+format_with v (Some vs) = option_and_then (table_grid (before_last vs)) (last_of vs)
+
+format_same : (v : WideValue) → format_grid v ≡ format_with v (parts_if (codes "tformat") v)
+unfolding format_with
+format_same (text words at) = refl
+format_same (made label vs at) = pick (bytes_eq label (codes "tformat"))
+  where
+    pick : (b : Bool)
+        → cond b (option_and_then (table_grid (before_last (each_of vs))) (last_of (each_of vs)))
+        (table_grid [] (made label vs at))
+        ≡ format_with (made label vs at) (cond b (Some (each_of vs)) None)
+    pick true = refl
+    pick false = refl
+
+pub format_none : (v : WideValue) → parts_if (codes "tformat") v ≡ None → format_grid v ≡ table_grid [] v
+unfolding format_with
+format_none v e = format_same v ∙ ap (λ o. format_with v o) e
+
+pub format_empty : (v : WideValue) (ps : List WideValue) → parts_if (codes "tformat") v ≡ Some ps → length ps ≡ 0
+    → None ≡ format_grid v
+unfolding format_with
+format_empty v ps e h =
+    let nothing : ps ≡ [] = nil_from_length ps h in
+    sym (
+    format_same v ∙ ap (λ o. format_with v o) e
+    ∙ ap (λ l. option_and_then (table_grid (before_last l)) (last_of l)) nothing
+    )
+
 pub format_by : (v : WideValue) (ps front : List WideValue) (table : WideValue)
     → parts_if (codes "tformat") v ≡ Some ps → slice_get ps (length ps - 1) ≡ Some table
     → front ≡ take (length ps - 1) ps → format_grid v ≡ table_grid front table
+unfolding format_with
 format_by v ps front table e h k =
-    ap (λ o. format_with v o) e ∙ ap (λ l. option_and_then (table_grid l) (last_of ps)) (front_is ps ∙ sym k)
+    format_same v ∙ ap (λ o. format_with v o) e
+    ∙ ap (λ l. option_and_then (table_grid l) (last_of ps)) (front_is ps ∙ sym k)
     ∙ ap (λ o. option_and_then (table_grid front) o) (last_is ps ∙ h)

@@ -1,8 +1,9 @@
 -- The grid of a `tabular`: its cells row by row, and the side of each.
 use Rattle.std.specs.Prelude.{ℕ, max, List, [], ◌∷◌, map, length, Option, Some, None, option_and_then}
-use Rattle.std.specs.Prelude.{codes}
+use Rattle.std.specs.Prelude.{if◌then◌else◌, codes}
+use Rattle.std.specs.Str.{bytes_eq}
 use Rattle.std.specs.Option.{option_map}
-use Rattle.tx_origin.specs.Values.{WideValue}
+use Rattle.tx_origin.specs.Values.{WideValue, text, made, each_of}
 use Rattle.tx_table.specs.declared.grids.Grid.{Grid}
 use Rattle.tx_table.specs.Settings.{parts_if, settings_in, sides_of}
 
@@ -68,14 +69,13 @@ grid_with vs rows =
 abbrev pub table_grid : List WideValue → WideValue → Option Grid
 table_grid vs table = option_map (grid_with vs) (table_rows table)
 
--- the grid of a value that is a `tformat` with these parts, or none
-abbrev pub format_with : WideValue → Option (List WideValue) → Option Grid
-format_with v None = table_grid [] v
-format_with v (Some vs) = option_and_then (table_grid (before_last vs)) (last_of vs)
-
 -- the grid of the one child of a `tabular`: of a `table`, or of a `tformat` whose last child is a `table`
 abbrev pub format_grid : WideValue → Option Grid
-format_grid v = format_with v (parts_if (codes "tformat") v)
+format_grid (text words at) = None
+format_grid (made label vs at) =
+    if bytes_eq label (codes "tformat")
+    then option_and_then (table_grid (before_last (each_of vs))) (last_of (each_of vs))
+    else table_grid [] (made label vs at)
 
 -- the grid of a `tabular`, or None where the value isn't one of the asked form
 abbrev pub grid_of : WideValue → Option Grid
