@@ -1,4 +1,4 @@
--- Where the cells of a row stand in it, and how many cells it takes.
+-- Where the cells of a row are in it, and how many cells it takes.
 use Rattle.std.proofs.Common.{◌≡◌, ℕ, zero, suc, ◌+◌, ◌-◌, ◌<◌, ◌≤◌, List, [], ◌∷◌, ◌++◌, length, get_or, Some}
 use Rattle.std.proofs.Common.{refl, sym, ap, ◌∙◌, subst, arith, append_assoc}
 use Rattle.std.specs.Prelude.{slice_get}
@@ -84,7 +84,7 @@ row_cells [] sides (x ∷ xs) h some = absurd h
 row_cells (n ∷ ns) [] (x ∷ xs) h some = absurd h
 row_cells (n ∷ ns) (s ∷ ss) (x ∷ xs) h some = omega (arith, row_across 0 n ns s ss x xs h)
 
--- a cell stands first in its row
+-- a cell is first in its row
 first_stands : (j : ℕ) (s : Side) (n : ℕ) (x rest : List Item)
     → StandsAt (gap_before j ++ cell_items s n x ++ rest) (before j + left_pad s (n - cells_across x)) x
 first_stands j s n x rest =
@@ -102,7 +102,7 @@ first_stands j s n x rest =
       cells = omega (arith, both_cells g (Gap l ∷ []), before_cells j, gap_cells l []);
     }
 
--- what stands in the rest of a row stands behind its first cell
+-- what is in the rest of a row is after its first cell
 later_stands : (j : ℕ) (s : Side) (n at : ℕ) (x y rest : List Item) → cells_across x ≤ n → StandsAt rest at y
     → StandsAt (gap_before j ++ cell_items s n x ++ rest) (before j + n + at) y
 later_stands j s n at x y rest h st =

@@ -38,7 +38,7 @@ flat_row (made l vs at) label r e f =
     ∙ ap (λ q. rule_flat q vs (all_flat vs) (last_flat vs) table) (sym f)
     ∙ ap (λ us. rule_flat r us (all_flat us) (last_flat us) table) (sym (vals_each vs))
 
--- ---- the last part behind pairs
+-- ---- the last part after pairs
 
 pub flat_even : (xs : List WideValue) → length xs % 2 ≡ 0 → last_flat (vals xs) ≡ true
 unfolding is_flat

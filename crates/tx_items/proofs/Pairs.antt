@@ -81,7 +81,7 @@ back_next before start a b xs i x two there isx back so_far =
 
 -- ---- `with`
 
--- an even number of parts has no last one behind pairs
+-- an even number of parts has no last one after pairs
 pub with_even : (before a : Attrs) (xs : List WideValue) → length xs % 2 ≡ 0 → show_with before a (vals xs) ≡ None
 unfolding show_with
 with_even before a [] h = refl

@@ -218,7 +218,7 @@ none_lists (y ∷ xs) zero x f h e =
 none_lists (y ∷ xs) (suc i) x f h e =
     none_lists xs i x (no_parts (is_leaf (plan_of y)) (some_list (plans_of (vals xs))) f).1 (omega arith) e
 
--- where the parts stand side by side
+-- where the parts are side by side
 pub joint_part : (p : WideTree) (xs : List WideValue) (i : ℕ) (x : WideValue) → p ≡ joint_plan (plans_of (vals xs))
     → i < length xs → x ≡ get_or xs i x → part_plan p i ≡ plan_of x
 joint_part p xs i x is h e = ap (λ q. part_plan q i) is ∙ pick (some_list (plans_of (vals xs))) refl

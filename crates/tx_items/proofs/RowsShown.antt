@@ -69,7 +69,7 @@ padded_next at cs ls rs x rest l r a b c isl isr =
     ∙ ap (λ ms. padded_from at (n ∷ drop (at + 1) cs) ms (drop at rs) (x ∷ rest)) left
     ∙ ap (λ ms. padded_from at (n ∷ drop (at + 1) cs) (l ∷ drop (at + 1) ls) ms (x ∷ rest)) right
 
--- a cell put behind items, piece by piece
+-- a cell put after items, piece by piece
 regroup : (i g x p : List Item) (a b : Item)
     → i ++ g ++ a ∷ [] ++ x ++ b ∷ [] ++ p ≡ i ++ (g ++ (a ∷ (x ++ b ∷ [])) ++ p)
 regroup i g x p a b =
@@ -216,7 +216,7 @@ cells_more xs i v s u w c more there is one rest =
     (cells_both (one_of (show s.attrs v)) (show_all false (show s.attrs v).after (vals (drop (i + 1) xs))) s u w
     (c ∷ []) more one (subst Q one.after rest))
 
--- the same behind cells that stand already
+-- the same after other cells
 pub cells_pushed : (all : AllShown) (s w : State) (row new more : List (List Item)) (c : List Item)
     → HasCells all s w (row ++ c ∷ more) → new ≡ row ++ c ∷ [] → HasCells all s w (new ++ more)
 cells_pushed all s w row new more c h e =

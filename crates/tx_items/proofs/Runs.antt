@@ -25,7 +25,7 @@ beside_assoc (begun a xs) empty s = refl
 beside_assoc (begun a xs) (begun b ys) empty = refl
 beside_assoc (begun a xs) (begun b ys) (begun c zs) = ap (begun a) (append_assoc xs ys zs)
 
--- ---- one behind the other
+-- ---- in order
 
 side_append : (xs ys : List (Form × Attrs))
     → side_by_side (xs ++ ys) ≡ beside (side_by_side xs) (side_by_side ys)
@@ -86,7 +86,7 @@ goes_inline r a s u h = record {
   side = λ _. (h.0 ∙ ap (beside s.run) (sym (beside_empty r)), h.1);
 }
 
--- a list, with the runs before and behind it ended
+-- a list, with the runs before and after it ended
 goes_listed : (ps : List Paragraph) (a : Attrs) (s s' u' u : State) → EndsRun s s' → Adds (listed ps) s' u'
     → EndsRun u' u → ShowsForms ((listed ps, a) ∷ []) s u
 goes_listed ps a s s' u' u before h behind =

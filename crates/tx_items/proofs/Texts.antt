@@ -1,4 +1,4 @@
--- Items behind items, and what errors show.
+-- Items after items, and what errors show.
 use Rattle.std.proofs.Common.{◌≡◌, ℕ, suc, ◌==◌, true, false, List, [], ◌∷◌, ◌++◌, length, None}
 use Rattle.std.proofs.Common.{refl, sym, ap, ◌∙◌, subst, append-nil, eqb-true, arith}
 use Rattle.std.specs.Prelude.{codes}
@@ -15,7 +15,7 @@ run_append a [] ys = refl
 run_append a (x ∷ xs) [] = ap (λ zs. begun a (x ∷ zs)) (append-nil xs)
 run_append a (x ∷ xs) (y ∷ ys) = refl
 
--- a run with its first attributes, behind which items come
+-- a run with its first attributes, after which items come
 pub run_grows : (first a : Attrs) (xs ys : List Item)
     → run_of (attrs_of_first xs first a) (xs ++ ys) ≡ beside (run_of first xs) (run_of a ys)
 run_grows first a [] ys = refl
@@ -24,7 +24,7 @@ run_grows first a (x ∷ xs) (y ∷ ys) = refl
 
 pub ruleset grows = (run_grows)
 
--- items behind items
+-- items after items
 pub line_both : (xs : List Item) (ys : Attrs → List Item) (s m u : State) → HasShown (in_line s.attrs xs) s m
     → HasShown (in_line m.attrs (ys m.attrs)) m u → HasShown (in_line s.attrs (xs ++ ys s.attrs)) s u
 line_both xs ys s m u h k =
@@ -72,7 +72,7 @@ error_long kind (t ∷ ts) s m n u v w h x y z p q =
     (line_both two (λ k. drawn k None (codes " ")) s n u
     (line_both one (λ k. drawn k None kind) s m n x y) z) p) q
 
--- items behind one error more
+-- items after one error more
 pub with_error : (xs : List Item) (e : ErrorAt) (s m u : State) → m.attrs ≡ s.attrs → m.run ≡ s.run
     → m.paragraphs ≡ s.paragraphs → m.errors ≡ s.errors ++ e ∷ [] → HasShown (in_line m.attrs xs) m u
     → HasShown (record { form = inline (run_of s.attrs xs); after = s.attrs; errors = e ∷ [] }) s u

@@ -25,7 +25,7 @@ abbrev pub is_table : Option Grid → Bool → Bool
 is_table None flat = false
 is_table (Some grid) flat = flat
 
--- by the parts, whether all of them are flat, whether the last one is behind pairs, and whether they are a table
+-- by the parts, whether all of them are flat, whether the last one is after pairs, and whether they are a table
 abbrev pub rule_flat : Rule → WideValues → Bool → Bool → Bool → Bool
 rule_flat rules.Concat vs all last table = all
 rule_flat rules.Document vs all last table = false
@@ -57,7 +57,7 @@ unfoldable mutual
   last_flat (also v none) = is_flat v
   last_flat (also x (also v vs)) = last_flat vs
 
-  -- what stands in the cells of a table, where these levels lead from the values down to it
+  -- what is in the cells of a table, where these levels lead from the values down to it
   pub flat_below : List Level → WideValues → Bool
   flat_below levels none = true
   flat_below [] (also v none) = is_flat v

@@ -26,7 +26,7 @@ joint_plan plans = if some_list plans then list_plan plans else line_plan
 abbrev pub table_plan : Bool → WideTree
 table_plan table = if table then list_plan nil else line_plan
 
--- by the plans of the parts, that of the last one behind pairs, and whether they show as a table
+-- by the plans of the parts, that of the last one after pairs, and whether they show as a table
 abbrev pub rule_plan : Rule → Forest → WideTree → Bool → WideTree
 rule_plan rules.Concat plans last table = joint_plan plans
 rule_plan rules.Document plans last table = list_plan plans

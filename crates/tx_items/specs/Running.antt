@@ -34,7 +34,7 @@ state_of s = record {
   errors = s.errors.items;
 }
 
--- items go behind the run; a list stands behind no run, and its last run may still be open
+-- items go after the run; a list is after no run, and its last run may still be open
 abbrev pub Adds : Form → State → State → Type 0
 Adds (inline r) s u = (u.run ≡ beside s.run r) × (u.paragraphs ≡ s.paragraphs)
 Adds (listed ps) s u = s.run ≡ empty → u.paragraphs ++ run_ended u.run ≡ s.paragraphs ++ ps
@@ -55,7 +55,7 @@ pub record HasRun (all : AllShown) (s u : State) : Type 0 where
   pub errors : u.errors ≡ s.errors ++ all.errors
   pub goes : ShowsForms all.each s u
 
--- the same where each is paragraphs of its own, behind no run
+-- the same where each is paragraphs of its own, after no run
 pub record HasPars (all : AllShown) (s u : State) : Type 0 where
   pub after : u.attrs ≡ all.after
   pub errors : u.errors ≡ s.errors ++ all.errors
@@ -89,7 +89,7 @@ pub record HasAttrs (attrs : Attrs) (s u : State) : Type 0 where
   pub paragraphs : u.paragraphs ≡ s.paragraphs
   pub errors : u.errors ≡ s.errors
 
--- the attributes behind pairs of a name and a value
+-- the attributes after pairs of a name and a value
 abbrev pub set_by_pairs : Attrs → WideValues → Attrs
 set_by_pairs a none = a
 set_by_pairs a (also v none) = a

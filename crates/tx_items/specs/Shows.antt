@@ -49,13 +49,13 @@ pub data Form : Type 0 where
   inline : ItemRun → Form
   listed : List Paragraph → Form
 
--- what a value shows as, the attributes behind it, and its errors
+-- what a value shows as, the attributes after it, and its errors
 pub record Shown : Type 0 where
   pub form : Form
   pub after : Attrs
   pub errors : List ErrorAt
 
--- the same of several values, each with the attributes behind it
+-- the same of several values, each with the attributes after it
 pub record AllShown : Type 0 where
   pub each : List (Form × Attrs)
   pub after : Attrs
@@ -86,7 +86,7 @@ side_by_side [] = empty
 side_by_side ((inline r, a) ∷ fs) = beside r (side_by_side fs)
 side_by_side ((listed ps, a) ∷ fs) = side_by_side fs
 
--- behind a run: each run with an item is a paragraph, in its place
+-- after a run: each run with an item is a paragraph, in its place
 abbrev pub paragraphs_of : ItemRun → List (Form × Attrs) → List Paragraph
 paragraphs_of r [] = run_ended r
 paragraphs_of r ((inline q, a) ∷ fs) = paragraphs_of (beside r q) fs
@@ -138,7 +138,7 @@ concat_shown all = record { form = joined_forms all.each; after = all.after; err
 abbrev pub document_shown : AllShown → Shown
 document_shown all = record { form = listed (one_by_one all.each); after = all.after; errors = all.errors }
 
--- without an odd number of parts there is no last one behind pairs
+-- without an odd number of parts there is no last one after pairs
 abbrev pub with_shown : Attrs → List ℕ → Option Shown → Shown
 with_shown a label None = bad a label
 with_shown a label (Some s) = s
@@ -179,7 +179,7 @@ error_shown a label (also k (also d (also e vs))) = bad a label
 abbrev pub made_form : Attrs → List Item → Form × Attrs
 made_form a items = (inline (run_of a items), a)
 
--- like a `concat` of `<` and the label, the parts, each behind a bar, and `>`
+-- like a `concat` of `<` and the label, the parts, each after a bar, and `>`
 abbrev pub tag_shown : Attrs → List ℕ → AllShown → Shown
 tag_shown a label all =
     record {
@@ -239,7 +239,7 @@ tabular_shown a label None cells = bad a label
 tabular_shown a label (Some grid) cells =
     if cells_fit cells.each then rows_shown a grid.sides cells else bad a label
 
--- a rule at a label, by the parts, what they show, each behind a bar or not, what the last one shows behind pairs, and
+-- a rule at a label, by the parts, what they show, each after a bar or not, what the last one shows after pairs, and
 -- what they show as a table
 abbrev pub rule_shown : Rule → Attrs → List ℕ → WideValues → (Bool → AllShown) → Option Shown → Shown → Shown
 rule_shown rules.Concat a label vs all last table = concat_shown (all false)
@@ -255,7 +255,7 @@ rule_shown rules.Error a label vs all last table = error_shown a label vs
 rule_shown rules.Tabular a label vs all last table = table
 rule_shown rules.Other a label vs all last table = tag_shown a label (all true)
 
--- what an attribute was before, it is again behind what is shown
+-- what an attribute was before, it is again after what is shown
 abbrev pub giving_back : Option (List ℕ) → Attrs → Option Shown → Option Shown
 giving_back name before None = None
 giving_back name before (Some s) = Some (record s { after = given_back (attribute_in name) before s.after })
@@ -270,7 +270,7 @@ unfoldable mutual
       rule_shown (rule_of label) a label vs (λ barred. show_all barred a vs) (show_with a a vs)
       (tabular_shown a label (grid_of (made label vs at)) (show_below (levels_of vs) a vs))
 
-  -- what values show one behind the other, each behind a bar or not
+  -- what values show in order, each after a bar or not
   pub show_all : Bool → Attrs → WideValues → AllShown
   show_all barred a none = record { each = []; after = a; errors = [] }
   show_all barred a (also v vs) =
@@ -282,7 +282,7 @@ unfoldable mutual
         errors = s.errors ++ rest.errors;
       }
 
-  -- what the last value shows behind pairs of a name and a value, whose attributes are then what they were before
+  -- what the last value shows after pairs of a name and a value, whose attributes are then what they were before
   pub show_with : Attrs → Attrs → WideValues → Option Shown
   show_with before a none = None
   show_with before a (also v none) = Some (show a v)
@@ -290,7 +290,7 @@ unfoldable mutual
       giving_back (value_text x) before
       (show_with before (with_named (attribute_in (value_text x)) (value_text v) a) vs)
 
-  -- what stands in the cells of a table shows, one after the other, where these levels lead from the values down to it
+  -- what is in the cells of a table shows, one after the other, where these levels lead from the values down to it
   pub show_below : List Level → Attrs → WideValues → AllShown
   show_below levels a none = nothing_shown a
   show_below [] a (also v none) = one_of (show a v)
@@ -326,6 +326,6 @@ is_blank (inline empty) = true
 is_blank (inline (begun a items)) = false
 is_blank (listed ps) = false
 
--- the paragraphs of a part, where it has these attributes behind it as a paragraph without an item
+-- the paragraphs of a part, where it has these attributes after it as a paragraph without an item
 abbrev pub part_paragraphs : Form → Attrs → List Paragraph
 part_paragraphs x end = one_by_one ((x, end) ∷ [])

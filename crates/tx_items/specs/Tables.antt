@@ -1,4 +1,4 @@
--- The rows of a table as paragraphs, and where its cells stand in a value.
+-- The rows of a table as paragraphs, and where its cells are in a value.
 use Rattle.std.specs.Prelude.{ℕ, zero, suc, ◌+◌, ◌-◌, Bool, true, false, List, [], ◌∷◌, ◌++◌, map, if◌then◌else◌, codes}
 use Rattle.std.specs.Str.{bytes_eq}
 use Rattle.tx_origin.specs.Values.{WideValue, WideValues, text, made, none, also}
@@ -34,7 +34,7 @@ cell_items side width items =
     let free = width - cells_across items in
     Gap (left_pad side free) ∷ (items ++ Gap (right_pad side free) ∷ [])
 
--- each cell but the first stands after a gap
+-- a gap comes before each cell but the first
 abbrev pub gap_before : ℕ → List Item
 gap_before zero = []
 gap_before (suc j) = Gap 2 ∷ []
@@ -65,7 +65,7 @@ row_paragraphs columns sides rows = []
 abbrev pub table_paragraphs : List (List Side) → List ShownRow → List Paragraph
 table_paragraphs sides rows = row_paragraphs (column_widths (row_widths rows)) sides rows
 
--- ---- where the cells stand
+-- ---- where the cells are
 
 -- of which parts of a node one goes on to their parts
 pub data Level : Type 0 where
@@ -73,7 +73,7 @@ pub data Level : Type 0 where
   -- the last one alone
   Final : Level
 
--- from the parts of a `tabular` down to what stands in its cells: through the `table` with its rows and their cells, or
+-- from the parts of a `tabular` down to what is in its cells: through the `table` with its rows and their cells, or
 -- through a `tformat`, whose last part is the `table`
 abbrev pub levels_of : WideValues → List Level
 levels_of none = []

@@ -1,4 +1,4 @@
-// What stands in a paragraph.
+// What is in a paragraph.
 ghost use Rattle.std.specs.Prelude.{◌≡◌, ◌≤◌, ◌++◌, [], ℕ, length, map, IfOk, OnOk, MatchOption, Some, None};
 ghost use Rattle.std.specs.Option.{option_copied};
 ghost use Rattle.tx_tree.specs.declared.TheConstants.{MOST_TEXT};
@@ -50,14 +50,14 @@ pub struct Drawn {
     pub look: Look,
 }
 
-/// What stands in a paragraph.
+/// What is in a paragraph.
 #[derive(Drop)]
 pub enum Item {
     /// A cluster that is neither a space nor a chance.
     Glyph(Drawn),
     /// A cluster that shows as one space.
     Space(Drawn),
-    /// A cluster that shows as a zero-width space (U+200B) alone. It takes no cell, and a line may end behind it.
+    /// A cluster that shows as a zero-width space (U+200B) alone. It takes no cell, and a line may end after it.
     Chance(Drawn),
     /// So many free cells, at most 500, which are part of a word.
     Gap(u32),

@@ -49,7 +49,7 @@ fn all_flat(alloc: Global, parts: &[Value]) -> Result<bool, Memory>
     Ok(true)
 }
 
-// Whether the last part behind pairs is flat. Where there is none, an error is shown.
+// Whether the last part after pairs is flat. Where there is none, an error is shown.
 #[tactic(auto, using(crate::proofs::FlatLoops::looping, std::proofs::lemmas::Grind::common_steps))]
 #[cycle(flat)]
 fn last_flat(alloc: Global, value: &Value) -> Result<bool, Memory>

@@ -8,7 +8,7 @@ ghost use Rattle.tx_items.specs.Tables.{row_items};
 ghost use Rattle.tx_items.specs.RowPlaces.{FitsRow, ColumnStands};
 
 /// A law: where no cell of a row is wider than its column, the row takes the cells of all columns and of a gap of 2
-/// between them, and each cell's items stand in order behind the columns and gaps before it and its left pad.
+/// between them, and each cell's items are in order after the columns and gaps before it and its left pad.
 pub fn row_law()
     ensures across { (columns : List ℕ) (sides : List Side) (cells : List (List Item)) →
         FitsRow columns sides cells → 0 < length cells →

@@ -133,7 +133,7 @@ impl Plan {
         Ok(plans)
     }
 
-    // The plan where the parts stand side by side.
+    // The plan where the parts are side by side.
     #[cycle(plan_of)]
     fn joint(alloc: Global, value: &Value) -> Result<Plan, Memory>
         ensures { IfOk result (λ p. p ≡ joint_plan (plans_of (vals (value_parts value.now)))) }
@@ -146,7 +146,7 @@ impl Plan {
         }
     }
 
-    // The plan of the last part behind pairs.
+    // The plan of the last part after pairs.
     #[tactic(auto, using(crate::proofs::Planning::making, std::proofs::lemmas::Grind::common_steps))]
     #[cycle(plan_of)]
     fn last(alloc: Global, value: &Value) -> Result<Plan, Memory>

@@ -388,7 +388,7 @@ impl Showing {
         self.end_run(alloc)
     }
 
-    // Adds the parts side by side, each behind a bar or not.
+    // Adds the parts side by side, each after a bar or not.
     #[tactic(auto, using(crate::proofs::Planning::joint, std::proofs::lemmas::Grind::common_steps))]
     #[cycle(show)]
     fn each(

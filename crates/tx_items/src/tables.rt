@@ -39,7 +39,7 @@ impl CellItems {
         CellItems { all }
     }
 
-    // Moves them behind others.
+    // Moves them after others.
     fn move_to(self, items: &mut Vec<Item>) -> Result<(), Memory>
         ensures { OnOk result (items.new.items ≡ items.old.items ++ self) }
     {

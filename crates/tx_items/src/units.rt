@@ -13,7 +13,7 @@ use tx_base::Memory;
 use tx_origin::Value;
 
 /// The paragraphs of a unit with this value, at least one, and its errors in order, where these are the attributes at
-/// its start. The one error is want of memory.
+/// its start. The one error is `Memory`.
 pub fn items(
     alloc: Global,
     value: &Value,
@@ -35,7 +35,7 @@ pub fn items(
     Ok((paragraphs, errors))
 }
 
-/// The attributes behind a value, where these are the ones before it. The one error is want of memory.
+/// The attributes after a value, where these are the ones before it. The one error is `Memory`.
 pub fn after(alloc: Global, value: &Value, attrs: &Attrs) -> Result<Attrs, Memory>
     ensures { IfOk result (λ a. a ≡ (show attrs.now value.now).after) }
 {
@@ -52,9 +52,9 @@ pub struct PartItems {
     /// One, where it shows in a line, and else those of a list, maybe none.
     pub paragraphs: Vec<Paragraph>,
     pub errors: Vec<ErrorAt>,
-    /// The attributes behind it.
+    /// The attributes after it.
     pub after: Attrs,
-    /// It shows in a line, without an item. Its paragraph has the attributes behind it.
+    /// It shows in a line, without an item. Its paragraph has the attributes after it.
     pub blank: bool,
 }
 
@@ -68,7 +68,7 @@ fn is_blank(showing: &Showing, is_list: bool) -> bool
     showing.run.is_empty()
 }
 
-/// What a part with this value shows, where these are the attributes before it. The one error is want of memory.
+/// What a part with this value shows, where these are the attributes before it. The one error is `Memory`.
 pub fn part_items(alloc: Global, value: &Value, attrs: &Attrs) -> Result<PartItems, Memory>
     ensures paragraphs { IfOk result (λ r. r.paragraphs.items
         ≡ part_paragraphs (show attrs.now value.now).form (show attrs.now value.now).after) }

@@ -10,15 +10,15 @@ use tx_tree::Text;
 // A text that the rules make.
 #[derive(Clone, Copy)]
 pub(crate) enum Word {
-    // what stands before the kind of an error
+    // what is before the kind of an error
     ErrorFront,
-    // what stands before the label of a tag that nothing says how to show
+    // what is before the label of a tag that nothing says how to show
     TagFront,
     // what ends both
     End,
-    // what stands before each part of such a tag
+    // what is before each part of such a tag
     Bar,
-    // what stands before the detail of an error
+    // what is before the detail of an error
     Blank,
     // the kind of the error of a tag whose parts aren't as its rule wants
     Bad,

@@ -216,7 +216,7 @@ behind_within len PageEnd xs h = last_within len xs h
 behind_within len (Down n) xs h =
     All-append (IsWithin len) xs (replicate n empty_row) h (empties_within len n)
 
--- ---- segments one behind the other
+-- ---- segments in order
 
 pub within_more : (len : ℕ) (cut : Item) (rows rows' own own' : List Row) → All (IsWithin len) rows
     → All (IsWithin len) own → own' ≡ rows_behind cut own → rows' ≡ rows ++ own' → All (IsWithin len) rows'

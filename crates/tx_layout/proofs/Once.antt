@@ -24,7 +24,7 @@ no_chance i a b = let e : true ≡ false = sym a ∙ b in cc
 pub no_both : (i : Item) → Blank i → Solid i → ⊥
 no_both i a b = let e : true ≡ false = sym a ∙ b in cc
 
--- a piece doesn't begin before another one that stands behind the same place
+-- a piece doesn't begin before another one that is after the same place
 no_earlier : (least : ℕ) (items : List Item) (x y : Span) → x.spaces ≡ y.spaces → IsSpan least items x
     → IsSpan least items y → y.from ≤ x.from
 no_earlier least items x y e p q =
@@ -128,7 +128,7 @@ pub none_inside : (segment : List Item) (cut : Item) (rest : List Item) → is_b
 none_inside [] cut rest is h = unlike cut cut refl is (All-head Whole cut rest h)
 none_inside (x ∷ xs) cut rest is h = none_inside xs cut rest is (All-tail Whole x (xs ++ cut ∷ rest) h)
 
--- the first cut stands in one place
+-- the first cut is in one place
 record SameCut (x y : List Item) (a b : Item) (s t : List Item) : Type 0 where
   before : x ≡ y
   here : a ≡ b

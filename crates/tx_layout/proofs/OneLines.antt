@@ -1,4 +1,4 @@
--- A paragraph whose items have room side by side stands in one line.
+-- A paragraph whose items have room side by side is in one line.
 use Rattle.std.proofs.Common.{◌≡◌, ℕ, zero, suc, ◌+◌, ◌-◌, ◌<◌, ◌≤◌, min, List, [], ◌∷◌, map, length, take, drop}
 use Rattle.std.proofs.Common.{get_or, refl, sym, ap, ap₂, ◌∙◌, subst, arith, Bool, true, false, inl, inr, Some}
 use Rattle.std.specs.Prelude.{slice_range, slice_get, All}

@@ -1,4 +1,4 @@
--- Pages one behind the other, and that there is one list of them.
+-- Pages in order, and that there is one list of them.
 use Rattle.std.proofs.Common.{◌≡◌, ℕ, ◌-◌, ◌≤◌, inl, inr, List, [], ◌∷◌, length, get_or}
 use Rattle.std.proofs.Common.{refl, sym, ap₂, ◌∙◌, subst, arith, true, false}
 use Rattle.std.specs.Prelude.{slice_range}

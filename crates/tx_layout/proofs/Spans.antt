@@ -29,7 +29,7 @@ span_more least items spans spans' s e is so_far rest h =
     let P : List Span → Type 0 = λ ss. SpansFrom least items 0 ss in
     subst P (sym (ap (λ ss. ss ++ rest) e ∙ append_assoc spans (s ∷ []) rest)) (so_far (s ∷ rest) (refl, is, h))
 
--- behind the last piece are spaces alone
+-- after the last piece are spaces alone
 pub spans_done : (least : ℕ) (items : List Item) (spans : List Span) (at from : ℕ)
     → ((rest : List Span) → SpansFrom least items at rest → SpansFrom least items 0 (spans ++ rest))
     → at ≤ from → from ≤ length items → length items ≤ from → All Blank (slice_range items at from)

@@ -1,4 +1,4 @@
--- One line more is told to a paginator, and the end.
+-- One line more is given to a paginator, and the end.
 use Rattle.std.proofs.Common.{◌≡◌, ℕ, ◌+◌, ◌-◌, ◌<◌, ◌≤◌, ◌⊎◌, inl, inr, List, [], ◌∷◌, ◌++◌, length, take, drop}
 use Rattle.std.proofs.Common.{get_or, refl, sym, ap, ◌∙◌, subst, arith, append_assoc, append-nil, length-append}
 use Rattle.std.specs.Prelude.{slice_range, All}
@@ -42,7 +42,7 @@ still_told lines height p q told h f c e = record {
 one_more : (lines : List Line) (line : Line) → length (lines ++ line ∷ []) ≡ length lines + 1
 one_more lines line = length-append lines (line ∷ [])
 
--- one line more, behind which its page goes on
+-- one line more, after which its page goes on
 pub goes_on : (lines : List Line) (line : Line) (height : ℕ) (p q : Paginator) → HasTold lines height p
     → q.height ≡ p.height → q.from ≡ p.from → q.count ≡ p.count + 1 → q.ended.items ≡ p.ended.items → Unmarked line
     → p.count + 1 < p.from + p.height → HasTold (lines ++ line ∷ []) height q
@@ -67,7 +67,7 @@ goes_on lines line height p q told h f c e plain room =
           (subst (λ (ls : List Line). PagesFrom ls height q.from later) whole t))));
     }
 
--- what stands behind a place, where others follow
+-- what is after a place, where others follow
 front : {X : Type 0} (xs ys : List X) (from : ℕ) → from ≤ length xs
     → slice_range (xs ++ ys) from (length xs) ≡ drop from xs
 front xs ys from le =
@@ -103,7 +103,7 @@ page_ended lines line height p more told ends =
           ];
     }
 
--- one line more, behind which a page ends
+-- one line more, after which a page ends
 pub ends_page : (lines : List Line) (line : Line) (height : ℕ) (p q : Paginator) → HasTold lines height p
     → q.height ≡ p.height → q.from ≡ p.count + 1 → q.count ≡ p.count + 1
     → q.ended.items ≡ p.ended.items ++ record { from = p.from; to = p.count + 1 } ∷ []

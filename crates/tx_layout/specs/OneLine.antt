@@ -1,4 +1,4 @@
--- Paragraphs that stand in one line.
+-- Paragraphs that are in one line.
 use Rattle.std.specs.Prelude.{ℕ, ◌+◌, ◌-◌, ◌<◌, ◌≤◌, false, length, get_or, All}
 use Rattle.tx_items.specs.declared.drawing.Item.TheVariants.{Break}
 use Rattle.tx_items.specs.declared.drawing.Paragraph.{Paragraph}
@@ -9,7 +9,7 @@ use Rattle.tx_layout.specs.Words.{Solid}
 use Rattle.tx_layout.specs.Segments.{shift}
 use Rattle.tx_layout.specs.Shapes.{Whole}
 
--- nothing cuts it, no space stands at its ends, and its items take at most the least width
+-- nothing cuts it, no space is at its ends, and its items take at most the least width
 pub record IsOneLine (p : Paragraph) (width : ℕ) : Type 0 where
   pub some : 0 < length p.items
   pub whole : All Whole p.items

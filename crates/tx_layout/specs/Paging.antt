@@ -9,7 +9,7 @@ EndsPage line = line.page_end ≡ true
 abbrev pub Unmarked : Line → Type 0
 Unmarked line = line.page_end ≡ false
 
--- a page has at most so many lines, of which only the last may be marked, and ends behind a marked line, behind so
+-- a page has at most so many lines, of which only the last may be marked, and ends after a marked line, after so
 -- many lines, or at the end of the lines
 pub record IsPage (lines : List Line) (height : ℕ) (page : Cut) : Type 0 where
   pub some : page.from < page.to
@@ -19,7 +19,7 @@ pub record IsPage (lines : List Line) (height : ℕ) (page : Cut) : Type 0 where
   pub full : page.to < length lines →
       (page.to ≡ page.from + height) ⊎ All EndsPage (slice_range lines (page.to - 1) page.to)
 
--- from a place on the lines stand on these pages, one behind the other
+-- from a place on the lines are on these pages, in order
 abbrev pub PagesFrom : List Line → ℕ → ℕ → List Cut → Type 0
 PagesFrom lines height at [] = at ≡ length lines
 PagesFrom lines height at (page ∷ pages) =

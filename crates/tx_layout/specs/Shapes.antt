@@ -51,7 +51,7 @@ behind_cut_by mark empty (Down n) lines = lines ++ replicate n empty
 abbrev pub behind_cut : Item → List Line → List Line
 behind_cut cut lines = behind_cut_by page_ending empty_line cut lines
 
--- a segment without a word gives an empty line, but none where it is the last, behind a cut
+-- a segment without a word gives an empty line, but none where it is the last, after a cut
 abbrev pub or_single : {X : Type 0} → X → Bool → Bool → List X → List X
 or_single empty is_first is_last [] = if is_last && not is_first then [] else empty ∷ []
 or_single empty is_first is_last (line ∷ lines) = line ∷ lines
@@ -59,7 +59,7 @@ or_single empty is_first is_last (line ∷ lines) = line ∷ lines
 abbrev pub or_empty : Bool → Bool → List Line → List Line
 or_empty is_first is_last lines = or_single empty_line is_first is_last lines
 
--- the lines of the first segment of a paragraph and those behind it, or of later ones alone
+-- the lines of the first segment of a paragraph and those after it, or of later ones alone
 pub data HasLines (frame : Frame) : Bool → List Item → List Line → Type 0 where
   last_segment : (is_first : Bool) (segment : List Item) (words : List Line) → All Whole segment
       → HasWords frame is_first segment words → HasLines frame is_first segment (or_empty is_first true words)

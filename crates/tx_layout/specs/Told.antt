@@ -10,7 +10,7 @@ abbrev pub lines_told : Paginator → ℕ
 lines_told p = p.count
 
 -- These lines were told, for pages of this height. Whatever lines follow, the pages that have ended are the first of
--- all, and the lines behind them are fewer than the height, with none that is the last of its page.
+-- all, and the lines after them are fewer than the height, with none that is the last of its page.
 pub record HasTold (lines : List Line) (height : ℕ) (p : Paginator) : Type 0 where
   pub number : lines_told p ≡ length lines
   pub height_is : p.height ≡ height

@@ -61,7 +61,7 @@ pub record IsSpan (least : ℕ) (items : List Item) (s : Span) : Type 0 where
       All Blank (slice_range items s.to (s.to + 1)) ⊎ All Breakable (slice_range items (s.to - 1) s.to)
       ⊎ (least < cells_across (slice_range items s.from (s.to + 1)))
 
--- from a place on the items are these pieces, one behind the other, and spaces
+-- from a place on the items are these pieces, in order, and spaces
 abbrev pub SpansFrom : ℕ → List Item → ℕ → List Span → Type 0
 SpansFrom least items at [] = All Blank (drop at items)
 SpansFrom least items at (s ∷ ss) = (s.spaces ≡ at) × IsSpan least items s × SpansFrom least items s.to ss

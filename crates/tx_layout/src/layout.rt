@@ -73,7 +73,7 @@ impl LineItems {
 pub struct Line {
     /// The free cells before it.
     pub indent: u32,
-    /// What stands on it, a gap with the cells that it takes here.
+    /// What is on it, a gap with the cells that it takes here.
     pub items: LineItems,
     /// Whether it is the last of its page.
     pub page_end: bool,
@@ -107,7 +107,7 @@ fn item_shown(item: &Item, least: u32) -> Result<Item, Memory>
     }
 }
 
-// Whether the item stands on lines as it is, where this is the least width.
+// Whether the item is on lines as it is, where this is the least width.
 fn is_kept(item: &Item, least: u32) -> bool
     ensures { IsTrue result → capped_item least item.now ≡ item.now }
 {
@@ -122,7 +122,7 @@ fn is_kept(item: &Item, least: u32) -> bool
     }
 }
 
-// Whether all items stand on lines as they are.
+// Whether all items are on lines as they are.
 fn are_kept(items: &[Item], least: u32) -> bool
     ensures { IsTrue result → map (capped_item least) items.now ≡ items.now }
 {
@@ -262,7 +262,7 @@ fn share_out(alloc: Global, items: &Items, rows: &[Row]) -> Result<Vec<Line>, Me
 }
 
 /// The lines of a paragraph on a page of this width, from 20 to 500 cells. The paragraph has fewer than 2^32 items, and
-/// no cluster has more than 2 cells. The steps rise by the number of its items. The one error is want of memory.
+/// no cluster has more than 2 cells. The steps rise by the number of its items. The one error is `Memory`.
 pub fn lines<L: Ledger>(
     alloc: Global,
     paragraph: &Paragraph,
@@ -314,7 +314,7 @@ pub fn within_page()
 {}
 
 /// A law: a paragraph that nothing cuts, that has no space at its ends and takes at most the least width of its lines,
-/// stands in one line, with all its items, at the indent of its side.
+/// is in one line, with all its items, at the indent of its side.
 pub fn one_line_law()
     ensures { (p : Paragraph) (width : ℕ) (lines : List Line) → IsShape p width lines → IsOneLine p width →
         lines ≡ one_line p width ∷ [] }

@@ -5,7 +5,7 @@ ghost use Rattle.tx_layout.specs.Frames.{side_of, line_frame, IsFrame};
 
 use tx_items::Paragraph;
 
-/// Where a line stands in its width.
+/// Where a line is in its width.
 #[derive(Clone, Copy, Debug, PartialEq, Eq)]
 pub enum Side {
     /// At the left.
@@ -29,7 +29,7 @@ pub struct Frame {
     pub first_width: u32,
     /// The width of the others, from 10 to 500.
     pub later_width: u32,
-    /// Where each line stands in its width.
+    /// Where each line is in its width.
     pub side: Side,
 }
 
@@ -65,7 +65,7 @@ fn margins(paragraph: &Paragraph, width: u32) -> (u32, u32)
     }
 }
 
-// Where lines stand, by the text of `par-mode`.
+// Where lines are, by the text of `par-mode`.
 fn side_of(mode: &[u8]) -> Side
     ensures { result ≡ side_of mode.now }
 {

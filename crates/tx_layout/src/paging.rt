@@ -26,14 +26,14 @@ pub struct Paginator {
     height: u32,
     // the pages that have ended
     ended: Vec<Cut>,
-    // the number of the first line behind these
+    // the number of the first line after these
     from: u32,
     // how many lines were told
     count: u32,
 }
 
 impl Paginator {
-    /// No line is told yet. A page has this height, from 5 to 500 lines.
+    /// No line is given yet. A page has this height, from 5 to 500 lines.
     pub fn new(alloc: Global, height: u32) -> Paginator
         requires least_height { 5 ≤ height }
         requires most_height { height ≤ 500 }
@@ -72,7 +72,7 @@ impl Paginator {
         Ok(())
     }
 
-    // Tells lines, and for want of memory some of them.
+    // Tells lines, and where memory runs out some of them.
     fn add_each(&mut self, lines: &[Line], unmarked: bool) -> Result<(), Memory>
         requires few { lines_told self.old + length lines.now < 2 ^ 32 }
         requires unmarked { unmarked ≡ true → All Unmarked lines.now }
@@ -87,7 +87,7 @@ impl Paginator {
         Ok(())
     }
 
-    // Tells lines, or for want of memory none of them.
+    // Tells lines, or where memory runs out none of them.
     fn add_all(&mut self, lines: &[Line], unmarked: bool) -> Result<(), Memory>
         requires few { lines_told self.old + length lines.now < 2 ^ 32 }
         requires unmarked { unmarked ≡ true → All Unmarked lines.now }
@@ -110,7 +110,7 @@ impl Paginator {
         }
     }
 
-    /// Tells lines that stand behind those told so far. There are fewer than 2^32 with these. The one error is want of
+    /// Tells lines that are after those told so far. There are fewer than 2^32 with these. The one error is want of
     /// memory, and then those told before are told.
     pub fn add(&mut self, lines: &[Line]) -> Result<(), Memory>
         requires few { lines_told self.old + length lines.now < 2 ^ 32 }
@@ -134,7 +134,7 @@ impl Paginator {
         self.add_all(lines, true)
     }
 
-    /// The pages of all lines that were told, by the lines' places. The one error is want of memory.
+    /// The pages of all lines that were told, by the lines' places. The one error is `Memory`.
     pub fn finish(self) -> Result<Vec<Cut>, Memory>
         ensures { IfOk result (λ pages. (lines : List Line) (height : ℕ) → HasTold lines height self
             → PagesFrom lines height 0 pages.items) }
@@ -150,9 +150,9 @@ impl Paginator {
     }
 }
 
-/// The pages of lines, by their places, on pages of this height, from 5 to 500 lines. A page ends behind a line that is
-/// the last of its page, behind as many lines as the height, or behind the last line. No lines give no page. There are
-/// fewer than 2^32 lines. The one error is want of memory.
+/// The pages of lines, by their places, on pages of this height, from 5 to 500 lines. A page ends after a line that is
+/// the last of its page, after as many lines as the height, or after the last line. No lines give no page. There are
+/// fewer than 2^32 lines. The one error is `Memory`.
 pub fn pages(alloc: Global, lines: &[Line], height: u32) -> Result<Vec<Cut>, Memory>
     requires least_height { 5 ≤ height }
     requires most_height { height ≤ 500 }
@@ -170,7 +170,7 @@ pub fn one_paging()
         PagesFrom lines height 0 pages → PagesFrom lines height 0 others → pages ≡ others }
 {}
 
-/// A law: what stands on the pages is, page after page, the lines themselves.
+/// A law: what is on the pages is, page after page, the lines themselves.
 pub fn lines_kept()
     ensures { (lines : List Line) (height : ℕ) (pages : List Cut) → PagesFrom lines height 0 pages →
         flat_map (λ page. slice_range lines page.from page.to) pages ≡ lines }

@@ -18,7 +18,7 @@ pub struct Span {
     pub spaces: u32,
     /// Where the piece begins.
     pub from: u32,
-    /// The place behind the piece.
+    /// The place after the piece.
     pub to: u32,
 }
 
@@ -58,7 +58,7 @@ pub(crate) fn capped_cells(items: &[Item]) -> u32
     cells
 }
 
-// The first place from here on where no space stands, or the end.
+// The first place from here on where no space is, or the end.
 fn spaces_end(items: &[Item], from: usize) -> usize
     requires { from ≤ length items.now }
     ensures onward { from ≤ result }

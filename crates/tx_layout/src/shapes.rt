@@ -53,7 +53,7 @@ fn cut_place(items: &[Item], from: usize) -> usize
     end
 }
 
-// Without a word an empty line, but none in the last segment, behind a cut.
+// Without a word an empty line, but none in the last segment, after a cut.
 fn or_empty(rows: &mut Vec<Row>, is_first: bool, is_last: bool) -> Result<(), Memory>
     ensures { OnOk result (rows.new.items ≡ rows_or_empty is_first is_last rows.old.items) }
 {
@@ -115,7 +115,7 @@ fn add_cut(own: &mut Vec<Row>, cut: &Item) -> Result<(), Memory>
     Ok(())
 }
 
-// The rows of some segments, and those of the next one behind them.
+// The rows of some segments, and those of the next one after them.
 fn joined(mut rows: Vec<Row>, mut own: Vec<Row>) -> Result<Vec<Row>, Memory>
     ensures { IfOk result (λ all. all.items ≡ rows.items ++ own.items) }
 {
