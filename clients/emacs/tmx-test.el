@@ -346,7 +346,7 @@ Sessions with large repetitions are left out."
     (insert script)
     (let ((coding-system-for-read 'binary)
           (coding-system-for-write 'binary))
-      (apply #'call-process-region nil nil tmx-program t t nil words))
+      (apply #'call-process-region nil nil tmx-program t '(t nil) nil words))
     (buffer-string)))
 
 (defun tmx-test-asked (words script)

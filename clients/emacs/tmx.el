@@ -149,8 +149,11 @@ WIDTH and HEIGHT are the size of a page.  Return the session.  Signal
   (if (string-prefix-p "gen:" file) (concat "./" file) file))
 
 (defun tmx--make-process (words)
-  "Start a process with the command line WORDS."
+  "Start a process with the command line WORDS.
+What it writes on the standard error, for people, isn't kept."
   (let ((output (generate-new-buffer " *tmx*"))
+        (said (make-pipe-process :name "tmx-said" :buffer nil :noquery t
+                                 :filter #'ignore :sentinel #'ignore))
         process)
     (with-current-buffer output
       (set-buffer-multibyte nil)
@@ -160,8 +163,9 @@ WIDTH and HEIGHT are the size of a page.  Return the session.  Signal
                        :name "tmx" :buffer output
                        :command (mapcar #'tmx--utf-8 words)
                        :connection-type 'pipe :coding '(binary . binary)
-                       :noquery t :sentinel #'ignore))
+                       :noquery t :stderr said :sentinel #'ignore))
       (unless process
+        (delete-process said)
         (kill-buffer output)))
     process))
 

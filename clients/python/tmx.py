@@ -448,8 +448,9 @@ class _Program:
 
     def __init__(self, words: Sequence[str]) -> None:
         # In a session of its own, so that an interrupt from the terminal doesn't end it.
-        self.process = subprocess.Popen(words, stdin=subprocess.PIPE, stdout=subprocess.PIPE, bufsize=0,
-                                        start_new_session=True)
+        # What the program writes on the standard error, for people, isn't kept: the line of its status says it too.
+        self.process = subprocess.Popen(words, stdin=subprocess.PIPE, stdout=subprocess.PIPE,
+                                        stderr=subprocess.DEVNULL, bufsize=0, start_new_session=True)
         assert self.process.stdin is not None and self.process.stdout is not None
         self._stdin, self._stdout = self.process.stdin, self.process.stdout
         self._readable, self._writable = select.poll(), select.poll()

@@ -1,74 +1,9 @@
-//! The program `tmx`: it lends `run` of `tx_session` the real files, input and output, and ends with the
-//! number of its status. The adapters are those of `tx_system`.
+//! The program `tmx`: what it does is `run_program` of `tx_program`.
 #![tactic(auto)]
 
-ghost use Rattle.std.specs.Prelude.{◌≡◌};
-
-use std::alloc::AllocError;
-use std::io::ErrorKind;
-use std::marker::Brand;
 use std::process::ExitCode;
-use std::rt::{Env, Files};
-use std::sync::ledger::{Blank, Ledger};
-use std::{env, io};
-use tx_base::Steps;
-use tx_session::{Status, run};
-use tx_system::{FileStore, StandardInput, StandardOutput};
-
-// The words of the command line. Where memory sufficed, words that can't be had, or are no text, are as faulty as none.
-fn words<R: Env + AllocGlobal>(rt: &R) -> Result<Vec<String>, AllocError> {
-    let mut words = Vec::new(rt.alloc());
-    match env::args(rt) {
-        Ok(args) => {
-            for word in args {
-                words.push(word)?;
-            }
-        }
-        Err(cause) => {
-            if cause.kind() == ErrorKind::OutOfMemory {
-                return Err(AllocError);
-            }
-        }
-    }
-    Ok(words)
-}
-
-// Runs the program, with a count of steps that nobody asks for.
-fn run_counted<R: Files + Print + Input + AllocGlobal, L: Ledger>(
-    rt: &R,
-    words: &[String],
-    blank: Blank,
-) -> Status
-    requires name { blank.name ≡ L.name }
-    requires parts { blank.parts ≡ L.parts }
-    requires whole { blank.parts ≡ 1 }
-{
-    let mut steps = Steps::<L>::new(blank);
-    let mut store = FileStore::new(rt.alloc(), rt);
-    let mut input = StandardInput::new(rt.reader());
-    let mut output = StandardOutput::new(io::writer(rt));
-    run(
-        rt.alloc(),
-        words,
-        &mut store,
-        &mut input,
-        &mut output,
-        &mut steps,
-    )
-}
-
-// Memory ran out before the words were at hand.
-fn run_without_words<R: Print>(rt: &R) -> Status {
-    match println!(rt; "memory") {
-        Ok(()) => Status::NoMemory,
-        Err(_) => Status::OutputFault,
-    }
-}
+use tx_program::run_program;
 
 fn main(rt: HostRuntime) -> ExitCode {
-    let status = match words(&rt) {
-        Ok(words) => run_counted::<HostRuntime, Brand>(&rt, &words, Blank::new(1)),
-        Err(AllocError) => run_without_words(&rt),
-    };
-    ExitCode::from(status.number())
+    run_program(&rt)
 }

@@ -1,7 +1,8 @@
 // Words of a command line that have spaces, and other names of the program.
 use std::alloc::{AllocError, Global};
 use std::str;
-use tx_words::{FileWords, Source, Words, WordsFault, read_words};
+use tx_base::Memory;
+use tx_words::{FileWords, Source, Words, WordsFault, faulty_because, read_words};
 
 // Words, each behind a bar, and what they ask for: the width, the height, and each file with its buffer's name.
 const ROWS: &[(&str, &str)] = &[
@@ -70,7 +71,52 @@ fn first_wrong(alloc: Global, rows: &[(&str, &str)]) -> Option<usize> {
         .position(|row| asks(alloc, row.0, row.1) != Ok(true))
 }
 
+// Words, each behind a bar, and why they are faulty, up to the end of a line, or `none`.
+const REASONS: &[(&str, &str)] = &[
+    ("|tmx|a.tm", "none"),
+    ("|tmx|--height=5|a.tm|--width|20", "none"),
+    ("|tmx", "no file is named"),
+    ("|tmx|--width|19|a.tm", "a width is 20 to 500"),
+    ("|tmx|--width|0x20|a.tm", "a width is 20 to 500"),
+    ("|tmx|--height|501|a.tm", "a height is 5 to 500"),
+    ("|tmx|--tall|a.tm", "unexpected argument '--tall' found"),
+    (
+        "|tmx|--height|5|--height|6|a.tm",
+        "the argument '--height <height>' cannot be used multiple times",
+    ),
+    ("|tmx|a.tm|b/a.scm", "two files are called a"),
+    ("|tmx|a.tm|b/", "the name of \"b/\" is empty"),
+    (
+        "|tmx|gen:1:0",
+        "a generated document is gen:NUMBER:COUNT, with NUMBER below 2147483648 and COUNT from 1 to 60000",
+    ),
+    (
+        "|tmx|gen:1:1|a.tm",
+        "no style stands with a generated document",
+    ),
+    (
+        "|tmx|--help",
+        "tmx [--width N] [--height N] FILE [STYLE]... reads commands, a line each:",
+    ),
+];
+
+// Whether the words of the line are faulty for this reason.
+fn is_because(alloc: Global, line: &str, wanted: &str) -> Result<bool, Memory> {
+    let words = words_in(alloc, line)?;
+    Ok(match &faulty_because(alloc, &words)? {
+        Some(reason) => reason.as_str().lines().next() == Some(wanted),
+        None => wanted == "none",
+    })
+}
+
+// The number of the first line with another reason.
+fn first_wrong_reason(alloc: Global, rows: &[(&str, &str)]) -> Option<usize> {
+    rows.iter()
+        .position(|row| is_because(alloc, row.0, row.1) != Ok(true))
+}
+
 #[test]
 fn words_of_command_lines(rt: HostRuntime) {
     assert_eq!(rt; first_wrong(rt.alloc(), ROWS), None);
+    assert_eq!(rt; first_wrong_reason(rt.alloc(), REASONS), None);
 }

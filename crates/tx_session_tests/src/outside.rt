@@ -73,7 +73,7 @@ pub(crate) struct Ended {
     pub(crate) file: Vec<u8>,
 }
 
-fn words_of(alloc: Global, words: &str) -> Result<Vec<String>, AllocError> {
+pub(crate) fn words_of(alloc: Global, words: &str) -> Result<Vec<String>, AllocError> {
     let mut owned = Vec::new(alloc);
     for word in words.split('|') {
         owned.push(String::from_str(alloc, word)?)?;
@@ -82,7 +82,7 @@ fn words_of(alloc: Global, words: &str) -> Result<Vec<String>, AllocError> {
 }
 
 // The list of the call that fails, if one does, where others are made first.
-fn failing_calls(
+pub(crate) fn failing_calls(
     alloc: Global,
     others: usize,
     failing: Option<u64>,

@@ -1,6 +1,11 @@
 // Files by their paths.
-ghost use Rattle.std.specs.Prelude.{◌≡◌, ◌≤◌, [], length, OnOk};
+ghost use Rattle.std.specs.Prelude.{◌≡◌, ◌≤◌, [], length, OnOk, OnErr, IsErrOf, IfSome, Some};
+ghost use Rattle.tx_outside.specs.Counts.{Rose};
+ghost use Rattle.tx_outside.specs.Files.{IsAbsent, IsTooLong, NamesDiffer, OthersKept, WithFile, file_of};
+ghost use Rattle.tx_outside.specs.Known.{WhereKnown};
+ghost use Rattle.tx_outside.specs.Outside.{StoreGoesOn};
 ghost use Rattle.tx_system.specs.Counts.{faults_of, longs_of, misses_of, seen_files};
+ghost use Rattle.tx_system.specs.Bytes.{AreAllOf, AreGivenTo};
 
 use crate::counts::raised;
 use crate::loading::read_to_limit;
@@ -41,7 +46,8 @@ impl<'a, R: Files> FileStore<'a, R> {
     // What the file of this name holds.
     fn load_file(&self, name: &[u8], out: &mut Vec<u8>) -> Result<(), LoadFault>
         requires { out.old.items ≡ [] }
-        ensures { OnOk result (length out.new.items ≤ MOST_FILE) }
+        ensures within { OnOk result (length out.new.items ≤ MOST_FILE) }
+        ensures read { OnOk result (AreAllOf R.File.remaining out.new.items) }
     {
         let Ok(path) = str::from_utf8(name) else {
             return Err(LoadFault::Failed);
@@ -55,7 +61,9 @@ impl<'a, R: Files> FileStore<'a, R> {
     }
 
     // Only the names take memory, and they are made before a file changes.
-    fn save_file(&self, name: &[u8], bytes: &[u8]) -> Result<(), SaveFault> {
+    fn save_file(&self, name: &[u8], bytes: &[u8]) -> Result<(), SaveFault>
+        ensures written { OnOk result (AreGivenTo R.File.contents bytes.now) }
+    {
         let mut names = save_names(self.alloc, self.rt, name)?;
         match save_bytes(self.rt, &mut names, bytes) {
             Ok(()) => Ok(()),
@@ -67,7 +75,27 @@ impl<'a, R: Files> FileStore<'a, R> {
 impl<R: Files> Store for FileStore<'_, R> {
     ghost seen = { λ store. seen_files store };
 
-    fn load(&mut self, name: &[u8], out: &mut Vec<u8>) -> Result<(), LoadFault> {
+    /// Reads the file of that name to its end, at most `MOST_FILE` bytes.
+    fn load(&mut self, name: &[u8], out: &mut Vec<u8>) -> Result<(), LoadFault>
+        requires { out.old.items ≡ [] }
+        ensures read { OnOk result (AreAllOf R.File.remaining out.new.items) }
+
+        // What the trait says, of files whose contents aren't told.
+        ensures loaded { OnOk result (IfSome (seen_files self.old).files
+            (λ all. file_of all name.now ≡ Some out.new.items)) }
+        ensures within_limit { OnOk result (length out.new.items ≤ MOST_FILE) }
+        ensures fault_empties { OnErr result (out.new.items ≡ []) }
+        ensures missing_rose { IsErrOf result LoadFault.Missing → Rose (misses_of self.old) (misses_of self.new) }
+        ensures missing_absent { IsErrOf result LoadFault.Missing
+            → IfSome (seen_files self.old).files (IsAbsent name.now) }
+        ensures failed_rose { IsErrOf result LoadFault.Failed → Rose (faults_of self.old) (faults_of self.new) }
+        ensures too_long_rose { IsErrOf result LoadFault.TooLong → Rose (longs_of self.old) (longs_of self.new) }
+        ensures too_long_there { IsErrOf result LoadFault.TooLong
+            → IfSome (seen_files self.old).files (IsTooLong name.now) }
+        ensures files_kept { (seen_files self.new).files ≡ (seen_files self.old).files }
+        ensures names_differ { IfSome (seen_files self.new).files NamesDiffer }
+        ensures goes_on { StoreGoesOn (seen_files self.old) (seen_files self.new) }
+    {
         let loaded = self.load_file(name, out);
         match loaded {
             Ok(()) => return Ok(()),
@@ -80,7 +108,21 @@ impl<R: Files> Store for FileStore<'_, R> {
         loaded
     }
 
-    fn save(&mut self, name: &[u8], bytes: &[u8]) -> Result<(), SaveFault> {
+    /// Writes the bytes into a new file, stores it for good, and renames it over the name.
+    fn save(&mut self, name: &[u8], bytes: &[u8]) -> Result<(), SaveFault>
+        ensures written { OnOk result (AreGivenTo R.File.contents bytes.now) }
+
+        // What the trait says, of files whose contents aren't told.
+        ensures saved { OnOk result
+            (WhereKnown (WithFile name.now bytes.now) (seen_files self.old).files (seen_files self.new).files) }
+        ensures failed_rose { IsErrOf result SaveFault.Failed → Rose (faults_of self.old) (faults_of self.new) }
+        ensures failed_others { IsErrOf result SaveFault.Failed
+            → WhereKnown (OthersKept name.now) (seen_files self.old).files (seen_files self.new).files }
+        ensures memory_keeps { IsErrOf result SaveFault.Memory
+            → (seen_files self.new).files ≡ (seen_files self.old).files }
+        ensures names_differ { IfSome (seen_files self.new).files NamesDiffer }
+        ensures goes_on { StoreGoesOn (seen_files self.old) (seen_files self.new) }
+    {
         let saved = self.save_file(name, bytes);
         if let Err(SaveFault::Failed) = saved {
             self.faults = raised(self.faults);

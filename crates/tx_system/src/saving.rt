@@ -1,6 +1,7 @@
 // Putting bytes in the place of what a file holds. Nothing in here takes memory.
 ghost use Rattle.std.specs.Prelude.{OnOk};
 ghost use Rattle.std.specs.Io.KnownBytes.{Appends};
+ghost use Rattle.tx_system.specs.Bytes.{AreGivenTo};
 
 use crate::save_names::SaveNames;
 use crate::spare_name::{SPARE_NAMES, SpareName};
@@ -16,7 +17,9 @@ pub(crate) fn save_bytes<R: Files>(
     rt: &R,
     names: &mut SaveNames,
     bytes: &[u8],
-) -> Result<(), Failed> {
+) -> Result<(), Failed>
+    ensures written { OnOk result (AreGivenTo R.File.contents bytes.now) }
+{
     match replaced(rt, names, bytes) {
         Ok(()) => Ok(()),
         Err(_) => Err(Failed),
@@ -24,7 +27,9 @@ pub(crate) fn save_bytes<R: Files>(
 }
 
 // The folder is opened before anything is written, so that the last step alone is left behind the renaming.
-fn replaced<R: Files>(rt: &R, names: &mut SaveNames, bytes: &[u8]) -> io::Result<()> {
+fn replaced<R: Files>(rt: &R, names: &mut SaveNames, bytes: &[u8]) -> io::Result<()>
+    ensures written { OnOk result (AreGivenTo R.File.contents bytes.now) }
+{
     let permissions = kept_permissions(rt, names.target.as_str())?;
     let folder = fs::open(rt, names.folder.as_str())?;
     let file = new_file(rt, &mut names.beside, permissions.is_some())?;
@@ -73,7 +78,9 @@ fn filled_and_renamed<R: Files>(
     mut file: R::File,
     permissions: Option<Permissions>,
     bytes: &[u8],
-) -> io::Result<()> {
+) -> io::Result<()>
+    ensures written { OnOk result (AreGivenTo R.File.contents bytes.now) }
+{
     fill(&mut file, permissions, bytes)?;
     drop(file);
     fs::rename(rt, names.beside.path()?, names.target.as_str())
@@ -84,7 +91,9 @@ fn fill<F: Write + OpenFile>(
     file: &mut F,
     permissions: Option<Permissions>,
     bytes: &[u8],
-) -> io::Result<()> {
+) -> io::Result<()>
+    ensures appended { OnOk result (Appends (F.contents file.old) (F.contents file.new) bytes.now) }
+{
     if let Some(permissions) = permissions {
         file.set_permissions(permissions)?;
     }

@@ -1,5 +1,5 @@
 // A unit, and what it is of.
-ghost use Rattle.std.specs.Prelude.{◌≡◌, ◌++◌, IfOk, OnOk};
+ghost use Rattle.std.specs.Prelude.{◌≡◌, IfOk};
 ghost use Rattle.tx_units.specs.Units.{unit, body_unit};
 
 use std::alloc::Global;
@@ -83,14 +83,4 @@ impl Unit {
             Some(path) => Ok(Some(path.copy(alloc)?)),
         }
     }
-}
-
-// Adds shares of the units. After a fault some of them may stand there.
-pub(crate) fn share_onto(alloc: Global, into: &mut Vec<Unit>, units: &[Unit]) -> Result<(), Memory>
-    ensures { OnOk result (into.new.items ≡ into.old.items ++ units.now) }
-{
-    for unit in units {
-        into.push(unit.share(alloc)?)?;
-    }
-    Ok(())
 }

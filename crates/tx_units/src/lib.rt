@@ -21,4 +21,4 @@ pub use base::base_units;
 pub use inside::leaves_others;
 pub use kinds::{Unit, UnitKind};
 pub use laws::{body_laws, inside_law, unit_count_law};
-pub use lists::{front_units, units, with_body};
+pub use lists::units;

@@ -1,18 +1,17 @@
 // The list of units.
 ghost use Rattle.std.specs.Prelude.{◌≡◌, ◌+◌, ◌≤◌, ◌<◌, ◌^◌, ◌++◌, drop, length, IfOk, OnOk};
 ghost use Rattle.tx_doc.specs.Buffers.{document_of};
-ghost use Rattle.tx_units.specs.Units.{body_units, units, style_units, initial_units, nodes_made, made};
+ghost use Rattle.tx_units.specs.Units.{units, style_units, initial_units, nodes_made, made};
 
 use crate::base::base_units;
 use crate::bodies::add_body;
 use crate::initial::add_initial;
-use crate::kinds::{Unit, share_onto};
+use crate::kinds::Unit;
 use crate::styles::add_styles;
 use std::alloc::Global;
 use std::sync::ledger::Ledger;
 use tx_base::{Memory, Steps};
 use tx_doc::Buffer;
-use tx_tree::Tree;
 
 // Adds the units of styles and of the initial environment.
 fn add_front<L: Ledger>(
@@ -36,48 +35,11 @@ fn add_front<L: Ledger>(
     add_initial(alloc, units, &document.tree, steps)
 }
 
-/// The units that stand before those of the body: shares of `base`, then those of the styles that the document names,
-/// then those of its initial environment. An edit of the body leaves them as they are, so they can be kept for
-/// `with_body`.
-///
-/// The steps rise by at most the nodes that are made: one for each style that isn't loaded, and two for each entry of
-/// the initial environment.
-pub fn front_units<L: Ledger>(
-    alloc: Global,
-    base: &[Unit],
-    buffers: &[Buffer],
-    steps: &mut Steps<L>,
-) -> Result<Vec<Unit>, Memory>
-    requires some { 1 ≤ length buffers.now }
-    requires few { length buffers.now < 2 ^ 32 }
-    ensures units { IfOk result (λ us. us.items ≡ base.now
-        ++ (style_units (document_of buffers.now) (drop 1 buffers.now) ++ initial_units (document_of buffers.now))) }
-    ensures counted { steps.new ≤ steps.old
-        + (nodes_made (style_units (document_of buffers.now) (drop 1 buffers.now))
-        + nodes_made (initial_units (document_of buffers.now))) }
-{
-    let mut units = Vec::with_capacity(alloc, base.len())?;
-    share_onto(alloc, &mut units, base)?;
-    add_front(alloc, &mut units, buffers, steps)?;
-    Ok(units)
-}
-
-/// Shares of the units in front, and behind them the paragraphs of the document's body. It makes no tree.
-pub fn with_body(alloc: Global, front: &[Unit], document: &Tree) -> Result<Vec<Unit>, Memory>
-    ensures { IfOk result (λ us. us.items ≡ front.now ++ body_units document.now) }
-{
-    let mut units = Vec::with_capacity(alloc, front.len())?;
-    share_onto(alloc, &mut units, front)?;
-    add_body(alloc, &mut units, document)?;
-    Ok(units)
-}
-
 /// The units of buffers, in the order in which they are evaluated: those of the base style, of the styles that the
 /// document names, of its initial environment, and the paragraphs of its body. Buffer 0 is the document, and the others
 /// are the loaded styles.
 ///
-/// Whatever it answers, the steps rise by at most the nodes that are made, those of the base style included. A caller
-/// that makes units again after each edit keeps `front_units` and calls `with_body`.
+/// Whatever it returns, the steps rise by at most the nodes that are made, those of the base style included.
 pub fn units<L: Ledger>(
     alloc: Global,
     buffers: &[Buffer],

@@ -11,6 +11,7 @@ mod limits;
 mod names;
 mod parsing;
 mod reading;
+mod reasons;
 mod sizes;
 
 pub use asked::{FileWord, FileWords, Source, Words};
@@ -19,6 +20,7 @@ pub use laws::{one_asking, plain_words};
 pub use limits::limit_law;
 pub use names::buffer_name;
 pub use reading::read_words;
+pub use reasons::faulty_because;
 
 /// The most files that words ask for.
 pub const MOST_FILES: usize = 64;

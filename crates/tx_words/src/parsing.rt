@@ -5,7 +5,7 @@ ghost use Rattle.clap.specs.Words.{app_of, found_of, matches_of, rows_of, rule_o
 ghost use Rattle.tx_words.specs.Words.{document_rule, option, styles, tmx};
 
 use crate::faults::WordsFault;
-use clap::error::ErrorKind;
+use clap::error::{Error, ErrorKind};
 use clap::{Arg, ArgAction, ArgMatches, Command};
 use std::alloc::Global;
 use tx_base::Memory;
@@ -46,6 +46,14 @@ fn tmx<'a>(alloc: Global) -> Result<Command<'a>, Memory>
         .arg(document(alloc))?
         .arg(styles(alloc))?;
     Ok(command)
+}
+
+/// What the command finds in the words, or what `clap` says against them.
+pub(crate) fn tried<'a>(
+    alloc: Global,
+    words: &'a [String],
+) -> Result<Result<ArgMatches<'a>, Error>, Memory> {
+    Ok(tmx(alloc)?.try_get_matches_from(words))
 }
 
 /// What the command finds in the words.

@@ -53,8 +53,8 @@ fn have_names(files: &[FileWord]) -> bool
     true
 }
 
-// Whether none of the files has the name.
-fn is_free(name: &[u8], files: &[FileWord]) -> bool
+/// Whether none of the files has the name.
+pub(crate) fn is_free(name: &[u8], files: &[FileWord]) -> bool
     ensures { IsTrue result ↔ AllByRecursion (λ other. other.name ≢ name.now) (map named_of files.now) }
 {
     for other in files {
@@ -106,8 +106,8 @@ fn push_values<'a>(
     }
 }
 
-// The document's file, and the files of styles behind it.
-fn files_of<'a>(
+/// The document's file, and the files of styles after it.
+pub(crate) fn files_of<'a>(
     alloc: Global,
     document: &'a str,
     matches: &ArgMatches<'a>,
@@ -140,8 +140,8 @@ fn files_source<'a>(
     Ok(Source::Files(FileWords::from(files)))
 }
 
-// Whether styles are given.
-fn has_styles(matches: &ArgMatches) -> bool
+/// Whether styles are given.
+pub(crate) fn has_styles(matches: &ArgMatches) -> bool
     ensures some { result ≡ true → styles_in (rows_of (found_of matches.now)) ≢ [] }
     ensures none { result ≡ false → styles_in (rows_of (found_of matches.now)) ≡ [] }
 {
