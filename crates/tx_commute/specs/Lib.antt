@@ -3,4 +3,3 @@ pub mod Pasts
 pub mod Knowing
 pub mod Leaving
 pub mod Midways
-pub mod Ways

@@ -1,16 +1,17 @@
 // Where an unchanged subtree stands after a modification of which the inverse is known.
 ghost use Rattle.std.specs.Prelude.{◌≡◌, IfOk, None, Some, MatchOption};
-ghost use Rattle.tx_mod.specs.Moves.{carried_by_insert, carried_by_remove, carried_in_split, carried_by_split};
-ghost use Rattle.tx_mod.specs.Moves.{carried_in_join, carried_by_join, carried_by_unwrap, some_path};
+ghost use Rattle.tx_mod.specs.Moves.{carried_by_insert, carried_in_split, carried_by_split};
+ghost use Rattle.tx_mod.specs.Moves.{carried_in_join, carried_by_join};
+ghost use Rattle.tx_mod.specs.Ways.{way_numbers};
 ghost use Rattle.tx_commute.specs.Knowing.{carried_at_by, carried_by};
-ghost use Rattle.tx_commute.specs.Ways.{way_numbers};
 
 use crate::known::cut_of;
 use crate::numbers::{extent_of, shifted, sum};
-use crate::ways::{Way, first_step, path_below, rest_behind};
 use std::alloc::Global;
 use tx_base::Memory;
-use tx_mod::Mod;
+use tx_mod::{
+    Mod, Way, carried_by_remove, carried_by_unwrap, first_step, path_below, rest_behind, some_path,
+};
 use tx_tree::Path;
 
 fn carried_by_insert(i: u32, n: u32, rest: &[u32]) -> Result<Option<Way<'_>>, Memory>
@@ -21,21 +22,6 @@ fn carried_by_insert(i: u32, n: u32, rest: &[u32]) -> Result<Option<Way<'_>>, Me
         return Ok(None);
     };
     Ok(Some(Way::Step(shifted(i, n, k)?, others)))
-}
-
-fn carried_by_remove(i: u32, n: u32, rest: &[u32]) -> Option<Way<'_>>
-    ensures { MatchOption result (carried_by_remove i n rest.now ≡ None)
-        (λ w. carried_by_remove i n rest.now ≡ Some (way_numbers w)) }
-{
-    let end = u64::from(i) + u64::from(n);
-    let (k, others) = first_step(rest)?;
-    if end <= u64::from(k) {
-        Some(Way::Step(k - n, others))
-    } else if i <= k {
-        None
-    } else {
-        Some(Way::Step(k, others))
-    }
 }
 
 fn carried_in_split(i: u32, j: u32, rest: &[u32]) -> Result<Option<Way<'_>>, Memory>
@@ -96,25 +82,6 @@ fn carried_by_join(i: u32, n: u32, rest: &[u32]) -> Result<Option<Way<'_>>, Memo
         return Ok(None);
     }
     Ok(Some(Way::Step(k, others)))
-}
-
-fn carried_by_unwrap(i: u32, rest: &[u32]) -> Option<Way<'_>>
-    ensures { MatchOption result (carried_by_unwrap i rest.now ≡ None)
-        (λ w. carried_by_unwrap i rest.now ≡ Some (way_numbers w)) }
-{
-    let (k, others) = first_step(rest)?;
-    if k == i {
-        Some(Way::Rest(others))
-    } else {
-        None
-    }
-}
-
-fn some_path(rest: &[u32]) -> Option<Way<'_>>
-    ensures { MatchOption result (some_path rest.now ≡ None) (λ w. some_path rest.now ≡ Some (way_numbers w)) }
-{
-    let (k, others) = first_step(rest)?;
-    Some(Way::Step(k, others))
 }
 
 fn carried_at_by<'a>(m: &Mod, undo: &Mod, rest: &'a [u32]) -> Result<Option<Way<'a>>, Memory>

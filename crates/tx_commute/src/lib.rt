@@ -10,7 +10,6 @@ mod midway;
 mod numbers;
 mod pairs;
 mod placing;
-mod ways;
 
 pub use laws::{carried_back_law, leave_law, past_law};
 pub use leaving::{Left, leave};

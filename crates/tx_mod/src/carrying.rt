@@ -1,5 +1,5 @@
 // Where an unchanged subtree stands afterwards. Paths are seen from the changed subtree.
-ghost use Rattle.std.specs.Prelude.{◌≡◌, ◌≤◌, IfOk, IsOk, IsSome, None, Some, MatchOption};
+ghost use Rattle.std.specs.Prelude.{◌≡◌, ◌≤◌, IfOk, IsOk, IsSome, None, Some, MatchOption, OnErr, if◌then◌else◌, true, false, Ok};
 ghost use Rattle.tx_tree.specs.Paths.{subtree};
 ghost use Rattle.tx_mod.specs.Changes.{changed};
 ghost use Rattle.tx_mod.specs.Moves.{carried_by_insert, carried_by_remove, carried_in_split};
@@ -24,7 +24,9 @@ fn carried_by_insert(i: u32, n: u32, rest: &[u32]) -> Option<Way<'_>>
     Some(Way::Step(shifted(i, n, k), others))
 }
 
-fn carried_by_remove(i: u32, n: u32, rest: &[u32]) -> Option<Way<'_>>
+/// Where a path is after a removal of n from place i. None is for what is taken out, and for the path of the changed
+/// subtree itself.
+pub fn carried_by_remove(i: u32, n: u32, rest: &[u32]) -> Option<Way<'_>>
     ensures { MatchOption result (carried_by_remove i n rest.now ≡ None)
         (λ w. carried_by_remove i n rest.now ≡ Some (way_numbers w)) }
 {
@@ -99,7 +101,8 @@ fn carried_by_join(i: u32, n: u32, rest: &[u32]) -> Option<Way<'_>>
     Some(Way::Step(k, others))
 }
 
-fn carried_by_unwrap(i: u32, rest: &[u32]) -> Option<Way<'_>>
+/// Where a path is after child i has come in the place of its parent. None is for the parent and its other children.
+pub fn carried_by_unwrap(i: u32, rest: &[u32]) -> Option<Way<'_>>
     ensures { MatchOption result (carried_by_unwrap i rest.now ≡ None)
         (λ w. carried_by_unwrap i rest.now ≡ Some (way_numbers w)) }
 {
@@ -111,8 +114,8 @@ fn carried_by_unwrap(i: u32, rest: &[u32]) -> Option<Way<'_>>
     }
 }
 
-// The path, unless it is that of the changed subtree itself.
-fn some_path(rest: &[u32]) -> Option<Way<'_>>
+/// The path, or None where it is that of the changed subtree itself.
+pub fn some_path(rest: &[u32]) -> Option<Way<'_>>
     ensures { MatchOption result (some_path rest.now ≡ None) (λ w. some_path rest.now ≡ Some (way_numbers w)) }
 {
     let (k, others) = first_step(rest)?;
@@ -157,4 +160,30 @@ pub fn carried(alloc: Global, t: &Tree, m: &Mod, path: &Path) -> Result<Option<P
         Some(way) => Ok(Some(path_below(alloc, m.path(), way)?)),
         None => Ok(None),
     }
+}
+
+/// Carries the path in place, as `carried` does, and tells whether it leads on. A path that leads on nowhere stays, and
+/// so does one after want of memory. Where the path of the modification neither begins this one nor goes on from it,
+/// nothing is copied.
+pub fn carry_in_place(alloc: Global, t: &Tree, m: &Mod, path: &mut Path) -> Result<bool, Memory>
+    requires applicable { IsOk (changed m.now t.now) }
+    requires leads { IsSome (subtree t.now path.old) }
+    ensures carried { IfOk result (λ on. carried_path m.now t.now path.old ≡ (if on then Some path.new else None)) }
+    ensures nowhere { result ≡ Ok false → path.new ≡ path.old }
+    ensures refused { OnErr result (path.new ≡ path.old) }
+{
+    let Some(rest) = rest_behind(m.path().steps(), path.steps()) else {
+        let is_above = rest_behind(path.steps(), m.path().steps()).is_some();
+        return Ok(!is_above);
+    };
+    let _size = t.size();
+    let Some(s) = t.at(m.path()) else {
+        unreachable!();
+    };
+    let Some(way) = carried_at(m, s, rest) else {
+        return Ok(false);
+    };
+    let carried = path_below(alloc, m.path(), way)?;
+    *path = carried;
+    Ok(true)
 }

@@ -20,7 +20,7 @@ mod walks;
 mod ways;
 
 pub use applying::{applicable, apply, apply_and_inverse, inverse};
-pub use carrying::carried;
+pub use carrying::{carried, carried_by_remove, carried_by_unwrap, carry_in_place, some_path};
 pub use faults::{ApplyFault, ModFault};
 pub use laws::{
     carried_law, carried_list_law, carried_place_law, inverse_law, list_inverse_law, moved_law,
@@ -29,3 +29,4 @@ pub use laws::{
 pub use list::ModList;
 pub use mods::Mod;
 pub use moving::moved;
+pub use ways::{Way, first_step, path_below, rest_behind};

@@ -7,11 +7,14 @@ use std::alloc::Global;
 use tx_base::Memory;
 use tx_tree::{Path, Place};
 
-// The numbers of a path: the first ones, and a part of another path.
+/// The numbers of a path: up to two, and a part of another path. Contracts read them by `way_numbers`.
 #[derive(Clone, Copy)]
-pub(crate) enum Way<'a> {
+pub enum Way<'a> {
+    /// Part of another path.
     Rest(&'a [u32]),
+    /// One number before a part of another path.
     Step(u32, &'a [u32]),
+    /// Two numbers before a part of another path.
     Steps(u32, u32, &'a [u32]),
 }
 
@@ -31,8 +34,8 @@ impl<'a> Way<'a> {
     }
 }
 
-// The first number, and the others.
-pub(crate) fn first_step(path: &[u32]) -> Option<(u32, &[u32])>
+/// The first number, and the others. None is for the path without numbers.
+pub fn first_step(path: &[u32]) -> Option<(u32, &[u32])>
     ensures { MatchOption result (path.now ≡ []) (λ p. path.now ≡ p.0 ∷ p.1.now) }
 {
     match path {
@@ -41,8 +44,8 @@ pub(crate) fn first_step(path: &[u32]) -> Option<(u32, &[u32])>
     }
 }
 
-// What stands behind the path in the other, where that begins with it.
-pub(crate) fn rest_behind<'a>(path: &[u32], other: &'a [u32]) -> Option<&'a [u32]>
+/// What the other path has after this one, where it begins with it. None is for another that begins otherwise.
+pub fn rest_behind<'a>(path: &[u32], other: &'a [u32]) -> Option<&'a [u32]>
     ensures { MatchOption result (rest_behind path.now other.now ≡ None)
         (λ r. rest_behind path.now other.now ≡ Some r.now) }
 {
@@ -71,8 +74,8 @@ fn push_all(path: &mut Path, numbers: &[u32]) -> Result<(), Memory>
     Ok(())
 }
 
-// The way, from the end of the path on.
-pub(crate) fn path_below(alloc: Global, path: &Path, way: Way<'_>) -> Result<Path, Memory>
+/// The path, with the numbers of the way at its end.
+pub fn path_below(alloc: Global, path: &Path, way: Way<'_>) -> Result<Path, Memory>
     ensures { IfOk result (λ q. q ≡ path.now ++ way_numbers way.entry) }
 {
     let mut whole = path.copy(alloc)?;
