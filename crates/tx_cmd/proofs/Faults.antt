@@ -1,4 +1,4 @@
--- What the pieces of a line that has the form of a command come to.
+-- What the pieces of a line that has the form of a command evaluate to.
 use Rattle.std.proofs.Common.{◌≡◌, ◌≢◌, ℕ, ◌+◌, ◌≤◌, true, List, [], ◌∷◌, ◌++◌, length, Some, Result, Ok, Err, inl, inr}
 use Rattle.std.proofs.Common.{⊎_elim, refl, sym, ap, subst, ◌∙◌}
 use Rattle.std.specs.Result.{IfErr, result_err}
@@ -25,7 +25,7 @@ pub fault_here : (a : ArgumentKind) (more : List ArgumentKind) (bytes piece rest
 fault_here a more bytes piece rest at fault o c h bad =
     let w = loose_cut a more bytes piece rest o c h in (piece, rest, c.are, w.0, w.1, inl bad)
 
--- the first piece is good, and one behind it is bad
+-- the first piece is good, and one after it is bad
 pub fault_behind : (v : Value) (more : List ArgumentKind) (bytes piece rest : List ℕ) (at : ℕ) (fault : CmdFault)
     → tree_is_last (argument_kind v ∷ more) ≡ true → IsCutPiece (argument_kind v) bytes piece rest
     → AreLoose (argument_kind v ∷ more) bytes → Means piece v → IsFirstFault more rest (at + 1 + length piece) fault

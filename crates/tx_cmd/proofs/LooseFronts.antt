@@ -184,7 +184,7 @@ misfit_here NameArgument more bytes piece rest n c h =
 misfit_here TreeArgument more bytes piece rest n c h = absurd (h.1 tt)
 misfit_here TextArgument more bytes piece rest n c h = absurd (h.1 tt)
 
--- ---- pieces behind one that fits
+-- ---- pieces after one that fits
 
 begun_behind : (a : ArgumentKind) (more : List ArgumentKind) (piece rest : List ℕ) (n : ℕ) → IsLoosePiece a piece
     → IsFront (AreLoose more) rest n

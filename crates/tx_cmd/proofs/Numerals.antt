@@ -1,4 +1,4 @@
--- How far bytes begin a number, and what stands in numbers, labels and paths.
+-- How far bytes begin a number, and what is in numbers, labels and paths.
 use Rattle.std.proofs.Common.{◌≡◌, ◌≢◌, ℕ, ◌+◌, ◌-◌, ◌*◌, ◌<◌, ◌≤◌, true, false, List, [], ◌∷◌, ◌++◌, length, take}
 use Rattle.std.proofs.Common.{get_or, nat_le, cond, Some, None, refl, sym, ap, subst, ◌∙◌, append_assoc, length-append}
 use Rattle.std.proofs.Common.{arith}

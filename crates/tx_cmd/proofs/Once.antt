@@ -242,7 +242,7 @@ made_again Tree = refl
 made_again (Save n) = refl
 made_again Quit = refl
 
--- the word of a line, and what stands behind it, are the same however it is read
+-- the word of a line, and what is after it, are the same however it is read
 same_word : (w v : Word) (r s line : List ℕ) → line ≡ word_text w ++ r → line ≡ word_text v ++ s → IsTail r → IsTail s
     → (w ≡ v) × (r ≡ s)
 same_word w v r s line e f hr hs =
@@ -362,7 +362,7 @@ first_loose : (arguments : List ArgumentKind) (bytes : List ℕ) (at : ℕ) (f :
 first_loose [] bytes at f h = absurd h
 first_loose (a ∷ more) bytes at f h = (h.0, h.1, h.3, h.4, h.2)
 
--- the piece is bad, or it is good and one behind it is bad
+-- the piece is bad, or it is good and one after it is bad
 abbrev HasFault : ArgumentKind → List ArgumentKind → ℕ → CmdFault → List ℕ → List ℕ → Type 0
 HasFault a more at f piece rest =
     IsBadPiece a piece (at + 1) f ⊎ (HasMeaning a piece × IsFirstFault more rest (at + 1 + length piece) f)

@@ -12,7 +12,7 @@ use Rattle.tx_cmd.specs.declared.words.ArgumentKind.TheVariants.{Label as LabelA
 use Rattle.tx_cmd.specs.declared.words.ArgumentKind.TheVariants.{Tree as TreeArgument, Text as TextArgument}
 use Rattle.tx_cmd.specs.Pieces.{IsTail, EndsPiece, IsCutPiece}
 
--- ---- what stands before the first space
+-- ---- what is before the first space
 
 up_to_space-cons : (b : ℕ) (bytes : List ℕ) → up_to_space (b ∷ bytes) ≡ cond (eqb b 32) [] (b ∷ up_to_space bytes)
 up_to_space-cons b bytes =
@@ -69,7 +69,7 @@ ends_not_tree NameArgument piece rest other apart h t = (h, t)
 ends_not_tree TreeArgument piece rest other apart h t = absurd (other refl)
 ends_not_tree TextArgument piece rest other apart h t = absurd (apart refl)
 
--- behind a space that begins the bytes
+-- after a space that begins the bytes
 cut_behind : (a : ArgumentKind) (b : ℕ) (x z piece : List ℕ) → (a ≡ TreeArgument → ⊥) → (a ≡ TextArgument → ⊥)
     → b ≡ 32 → z ≡ x → piece ≡ up_to_space z
     → IsCutPiece a (b ∷ x) piece (take (length z - length piece) (drop (length piece) z))
@@ -91,7 +91,7 @@ cut_at a [] piece other apart some tail e = absurd (omega arith)
 cut_at a (b ∷ x) piece other apart some tail e =
     cut_behind a b x (take (length (b ∷ x) - 1) (drop 1 (b ∷ x))) piece other apart tail (take_rest (b ∷ x) 1) e
 
--- what stands behind the first word of a line
+-- what is after the first word of a line
 pub behind_first : (line first : List ℕ) → first ≡ up_to_space line
     → (IsTail (take (length line - length first) (drop (length first) line)))
     × (line ≡ first ++ take (length line - length first) (drop (length first) line))

@@ -68,7 +68,7 @@ passes p (v ∷ ws) w e =
       | false ↦ λ t f. passes p ws w f
     ] refl e
 
--- what a search for the word answers
+-- what a search for the word returns
 pub known : (x : List ℕ) (r : Option Word) → r ≡ word_named x → MatchOption r (¬ IsKnown x) (λ w. x ≡ word_text w)
 known x None e = λ k. let there : None ≡ Some k.0 = e ∙ ap word_named k.1 ∙ named k.0 in absurd cc
 known x (Some w) e =

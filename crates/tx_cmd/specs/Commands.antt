@@ -39,7 +39,7 @@ mod_word (AssignNode p l) = AssignNodeWord
 mod_word (InsertNode p i t) = InsertNodeWord
 mod_word (RemoveNode p i) = RemoveNodeWord
 
--- what it takes behind its path
+-- what it takes after its path
 abbrev pub values_behind : Mod → List Value
 values_behind (Assign p t) = a_tree t ∷ []
 values_behind (Insert p i t) = a_number i ∷ a_tree t ∷ []
@@ -75,7 +75,7 @@ command_word Tree = TreeWord
 command_word (Save n) = SaveWord
 command_word Quit = QuitWord
 
--- what it takes behind that word
+-- what it takes after that word
 abbrev pub values_of : Command → List Value
 values_of (Change m) = a_path (path_of m) ∷ values_behind m
 values_of (At n) = a_name n ∷ []

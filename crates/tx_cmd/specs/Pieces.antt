@@ -30,7 +30,7 @@ pub record IsCutPiece (a : ArgumentKind) (bytes piece rest : List ℕ) : Type 0 
   pub are : bytes ≡ 32 ∷ (piece ++ rest)
   pub ends : EndsPiece a piece rest
 
--- no argument stands behind a tree, which may be a text
+-- no argument is after a tree, which may be a text
 abbrev pub tree_is_last : List ArgumentKind → Bool
 tree_is_last [] = true
 tree_is_last (TreeArgument ∷ []) = true

@@ -1,4 +1,4 @@
--- Why a line is no command: the first of the causes, in the order in which they stand here.
+-- Why a line is no command: the first of the causes, in the order in which they are here.
 use Rattle.std.specs.Prelude.{◌≡◌, ℕ, ◌+◌, ◌<◌, ◌≤◌, ◌⊎◌, false, List, [], ◌∷◌, ◌++◌, length}
 use Rattle.tx_base.specs.Fronts.{IsLongestFront}
 use Rattle.tx_tree.specs.PathSpelling.{IsPathFault}

@@ -1,4 +1,4 @@
--- The first words of commands, the arguments that stand behind each, and the loose grammar of lines.
+-- The first words of commands, the arguments that are after each, and the loose grammar of lines.
 use Rattle.std.specs.Prelude.{◌≡◌, ◌≢◌, ℕ, ◌≤◌, ◌==◌, Bool, true, false, ◌||◌}
 use Rattle.std.specs.Prelude.{◌&&◌, nat_le, List, [], ◌∷◌, ◌++◌, length, codes}
 use Rattle.std.specs.List.{AllByRecursion, before_first}
@@ -54,7 +54,7 @@ word_text Tree = codes "tree"
 word_text Save = codes "save"
 word_text Quit = codes "quit"
 
--- what a modification takes behind the path to what is changed
+-- what a modification takes after the path to what is changed
 abbrev pub arguments_behind : ModWord → List ArgumentKind
 arguments_behind Assign = TreeArgument ∷ []
 arguments_behind Insert = NumberArgument ∷ TreeArgument ∷ []
@@ -89,7 +89,7 @@ arguments_of Work = []
 arguments_of Tree = []
 arguments_of Quit = []
 
--- what stands before the first space, or the line where it has none
+-- what is before the first space, or the line where it has none
 abbrev pub up_to_space : List ℕ → List ℕ
 up_to_space line = before_first (λ b. b == 32) line
 

@@ -27,11 +27,11 @@ pub enum Command {
     Click(u32, u32),
     /// Puts the cursor at the stop before it.
     Left,
-    /// Puts the cursor at the stop behind it.
+    /// Puts the cursor at the stop after it.
     Right,
     /// Inserts the text at the cursor.
     Typed(Text),
-    /// Removes what stands before the cursor.
+    /// Removes what is before the cursor.
     Backspace,
     /// Begins a paragraph at the cursor.
     Enter,

@@ -10,7 +10,7 @@ pub fn one_command()
     ensures { (line : List ℕ) (c d : Command) → IsCommand line c → IsCommand line d → c ≡ d }
 {}
 
-/// A line has at most one cause that makes it no command, want of memory apart, and a command has none. Each line is a
+/// A line has at most one cause that makes it no command, `Memory` apart, and a command has none. Each line is a
 /// command or has such a cause, however much memory there is.
 pub fn one_answer()
     ensures cause { (line : List ℕ) (f g : CmdFault) → f ≢ CmdFault.Memory → g ≢ CmdFault.Memory → IsCmdFault line f

@@ -1,7 +1,7 @@
 //! Command lines: which line of a script is which command, and why a line is none.
 //!
 //! What spells a command is `IsCommand` (`specs/Commands.antt`), and the causes of a refusal are `IsCmdFault`
-//! (`specs/Refusals.antt`). The words, what stands behind them, and the loose grammar that decides the place of
+//! (`specs/Refusals.antt`). The words, what is after them, and the loose grammar that decides the place of
 //! `CmdFault::Args` are in `specs/Words.antt`. A line comes without the newline that ends it and without the one
 //! return before that.
 #![tactic(auto)]

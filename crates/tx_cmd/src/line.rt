@@ -18,7 +18,7 @@ use tx_base::Steps;
 ///
 /// Faults are the first that holds of `Long`, `Unknown`, `Args`, `Path` and `Tree` (docs/DECISIONS.md), and `Memory`,
 /// which comes only where commands with the line's first word hold a path, a label, a name, a tree or a text. Where it
-/// answers a command, the steps rise by at most the nodes of the line's tree that aren't leaves.
+/// returns a command, the steps rise by at most the nodes of the line's tree that aren't leaves.
 pub fn parse<L: Ledger>(
     alloc: Global,
     line: &[u8],

@@ -12,7 +12,7 @@ use std::alloc::Global;
 use tx_base::Memory;
 use tx_tree::{Label, LabelFault, MOST_DIGITS, MOST_NUMBER};
 
-/// What stands before the first space, or all bytes where there is none.
+/// What is before the first space, or all bytes where there is none.
 pub fn first_word(bytes: &[u8]) -> &[u8]
     ensures { result.now ≡ up_to_space bytes.now }
 {
@@ -22,7 +22,7 @@ pub fn first_word(bytes: &[u8]) -> &[u8]
     }
 }
 
-// The piece for the argument, behind the space that the bytes begin with, and what stands behind the piece.
+// The piece for the argument, after the space that the bytes begin with, and what is after the piece.
 pub(crate) fn cut(argument: ArgumentKind, bytes: &[u8]) -> (&[u8], &[u8])
     requires some { 1 ≤ length bytes.now }
     requires tail { IsTail bytes.now }
@@ -122,7 +122,7 @@ fn piece_misfit(
 }
 
 // How many of the bytes can be continued to pieces that may stand for the arguments, or None where they are such
-// pieces themselves, each behind a space.
+// pieces themselves, each after a space.
 pub(crate) fn misfit(
     alloc: Global,
     arguments: &[ArgumentKind],

@@ -22,7 +22,7 @@ use tx_doc::Name;
 use tx_mod::Mod;
 use tx_tree::{Label, LabelFault, Path, PathFault, ReadFault, Text, Tree};
 
-// The path of the piece, which stands at this place of the line.
+// The path of the piece, which is at this place of the line.
 fn read_path(alloc: Global, piece: &[u8], at: usize) -> Result<Path, CmdFault>
     requires { at + length piece.now ≤ MOST_LINE }
     ensures ok { IfOk result (λ p. SpellsPath piece.now p) }
@@ -53,7 +53,7 @@ fn moved(fault: ReadFault, at: usize) -> ReadFault
     }
 }
 
-// The tree of the piece, which stands at this place of the line.
+// The tree of the piece, which is at this place of the line.
 fn read_tree<L: Ledger>(
     alloc: Global,
     piece: &[u8],
@@ -85,7 +85,7 @@ fn text_of(tree: &Tree, at: usize) -> Result<Text, CmdFault>
     }
 }
 
-// The text of the piece, which stands at this place of the line.
+// The text of the piece, which is at this place of the line.
 fn read_text<L: Ledger>(
     alloc: Global,
     piece: &[u8],
@@ -151,7 +151,7 @@ fn last_text<L: Ledger>(
     read_text(alloc, piece, at + 1, steps)
 }
 
-// A number, and the tree behind it, where these begin at this place of the line.
+// A number, and the tree after it, where these begin at this place of the line.
 fn number_and_tree<L: Ledger>(
     alloc: Global,
     bytes: &[u8],
@@ -258,7 +258,7 @@ fn insertion(word: ModWord, path: Path, i: u32, tree: Tree) -> Mod
     }
 }
 
-// The modification of this path, by what stands behind the path, at this place of the line.
+// The modification of this path, by what is after the path, at this place of the line.
 fn change_at<L: Ledger>(
     alloc: Global,
     word: ModWord,
@@ -290,7 +290,7 @@ fn change_at<L: Ledger>(
     }
 }
 
-// The modification of what stands behind its word, at this place of the line.
+// The modification of what is after its word, at this place of the line.
 fn change<L: Ledger>(
     alloc: Global,
     word: ModWord,
@@ -324,7 +324,7 @@ fn last_path(alloc: Global, bytes: &[u8], at: usize) -> Result<Path, CmdFault>
     read_path(alloc, piece, at + 1)
 }
 
-// The command of a word that takes nothing or numbers alone, and of what stands behind it.
+// The command of a word that takes nothing or numbers alone, and of what is after it.
 fn plain_command(word: Word, bytes: &[u8]) -> Command
     requires stored { some_stored (arguments_of word) ≡ false }
     requires loose { AreLoose (arguments_of word) bytes.now }
@@ -359,7 +359,7 @@ fn plain_command(word: Word, bytes: &[u8]) -> Command
     }
 }
 
-// The command of the word and of what stands behind it, at this place of the line.
+// The command of the word and of what is after it, at this place of the line.
 pub(crate) fn command<L: Ledger>(
     alloc: Global,
     word: Word,

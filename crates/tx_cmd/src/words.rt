@@ -1,9 +1,9 @@
-// The first words of commands, and the arguments that stand behind each.
+// The first words of commands, and the arguments that are after each.
 ghost use Rattle.std.specs.Prelude.{◌≡◌, MatchOption, find};
 ghost use Rattle.std.specs.Str.{bytes_eq};
 ghost use Rattle.tx_cmd.specs.Words.{mod_text, word_text, arguments_of, IsKnown};
 
-/// What stands behind a command's first word.
+/// What is after a command's first word.
 #[derive(Clone, Copy)]
 pub enum ArgumentKind {
     /// A path.
@@ -191,7 +191,7 @@ impl Word {
         }
     }
 
-    // What stands behind the word, in order.
+    // What is after the word, in order.
     pub(crate) fn arguments(self) -> &'static [ArgumentKind]
         ensures { result.now ≡ arguments_of self }
     {

@@ -14,7 +14,7 @@ use Rattle.tx_tree.proofs.Scanning.{begins_tested, run_more}
 use Rattle.tx_mod.proofs.Cases.{by_test}
 use Rattle.tx_edit.specs.Keys.{cut_before}
 
--- where the reading of a text stands behind its first k bytes
+-- where the reading of a text is after its first k bytes
 record IsRead (text : List ℕ) (k : ℕ) : Type 0 where
   at : TextPlace
   read : text_run (Some Between) (take k text) ≡ Some at
@@ -30,13 +30,13 @@ reading text k whole =
     from None e h = absurd (cc)
     from (Some p) e h = record { at = p; read = e }
 
--- within the text a cut is where the reading stands between two items
+-- within the text a cut is where the reading is between two items
 cut_is : (text : List ℕ) (k : ℕ) (p : TextPlace) → k ≤ length text → text_run (Some Between) (take k text) ≡ Some p
     → is_cut text k ≡ is_between (Some p)
 unfolding is_cut is_text
 cut_is text k p le e = rw (le-leb k (length text) le, e) refl
 
--- what stands before a byte follows from what stands behind it
+-- what is before a byte follows from what is after it
 abbrev pub was_cut : Bool → ℕ → Bool
 was_cut true b = not (b == 62)
 was_cut false b = b == 60
@@ -48,7 +48,7 @@ step_back Between (InSymbol n) b e = grind arith
 step_back (InSymbol m) Between b e = grind arith
 step_back (InSymbol m) (InSymbol n) b e = grind arith
 
--- whether there is a cut before a byte, by the byte and by whether there is one behind it
+-- whether there is a cut before a byte, by the byte and by whether there is one after it
 pub cut_back : (text : List ℕ) (k : ℕ) → IsText text → k < length text
     → is_cut text k ≡ was_cut (is_cut text (k + 1)) (get_or text k 0)
 cut_back text k whole lt =

@@ -265,7 +265,7 @@ turned mods t h = from (changed_in_turn mods t) refl h
     from (Ok u) e k = record { tree = u; is = e }
     from (Err cause) e k = absurd (cc)
 
--- where the second of two splits moves the place behind the first
+-- where the second of two splits moves the place after the first
 second_moves : (w : WideTree) (p : List ℕ) (i j : ℕ) → IsSplitOnce w p i j
     → moved_place (Split p i (j + 1)) w (place ((p ++ i ∷ []) ++ (j + 1) ∷ []) 0) ≡ place (p ++ (i + 1) ∷ 0 ∷ []) 0
 second_moves w p i j d =
@@ -376,7 +376,7 @@ split_follows t at text m formed there found e = from (parent_of at.path) refl e
         NotInParagraph m h
         (λ _ k. concat_follows t at last.0 text last.1 m formed there is found k)) g
 
--- what holds of each move that a definition answers
+-- what holds of each move that a definition returns
 pub typed_follows : (t : WideTree) (at : Place) (text : List ℕ) (m : Move) → IsWellFormed t → IsText text
     → IsPlace t at.path at.offset → typed t at text ≡ Ok m → Follows t at m
 typed_follows t at text m formed h there e =

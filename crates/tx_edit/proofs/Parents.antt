@@ -1,4 +1,4 @@
--- Parents of paths, and what stands at a path.
+-- Parents of paths, and what is at a path.
 use Rattle.std.proofs.Common.{◌≡◌, ℕ, ◌≤◌, true, false, List, [], ◌∷◌, ◌++◌, Option, Some, None, is_some, refl, ap}
 use Rattle.std.proofs.Common.{subst, ◌∙◌}
 use Rattle.std.specs.Prelude.{IsSome, codes, slice_get, option_and_then}
@@ -32,7 +32,7 @@ root_alone : (path : List ℕ) → parent_of path ≡ None → path ≡ []
 root_alone [] e = refl
 root_alone (k ∷ path) e = absurd (cc)
 
--- the path is that of the parent, and the number behind it
+-- the path is that of the parent, and the number after it
 pub path_is : (path : List ℕ) (last : List ℕ × ℕ) → parent_of path ≡ Some last → path ≡ last.0 ++ last.1 ∷ []
 path_is [] last e = absurd (cc)
 path_is (k ∷ path) last e = from (parent_of path) refl e (λ l f. path_is path l f)
@@ -50,9 +50,9 @@ path_is (k ∷ path) last e = from (parent_of path) refl e (λ l f. path_is path
     from (Some l) f g ih =
         subst (λ (z : List ℕ × ℕ). k ∷ path ≡ z.0 ++ z.1 ∷ []) (same (Some l) g) (ap (λ q. k ∷ q) (ih l f))
 
--- ---- what stands at a path
+-- ---- what is at a path
 
--- a child, of what stands at the path of its parent
+-- a child, of what is at the path of its parent
 pub record IsChildAt (t : WideTree) (p : List ℕ) (i : ℕ) (c : WideTree) : Type 0 where
   pub parent : WideTree
   pub found : subtree t p ≡ Some parent

@@ -1,4 +1,4 @@
--- Modifications in turn: that they apply unless a limit refuses one, and where a place stands behind them.
+-- Modifications in turn: that they apply unless a limit refuses one, and where a place is after them.
 use Rattle.std.proofs.Common.{◌≡◌, ℕ, true, false, Bool, List, [], ◌∷◌, ◌++◌, Option, Some, None, Ok, Err, refl}
 use Rattle.std.proofs.Common.{sym, ap, subst, ◌∙◌}
 use Rattle.std.specs.Prelude.{if◌then◌else◌, IfErr, IsTrue, nat_le}
@@ -67,7 +67,7 @@ one_applies m ms t s v found made next =
     from (Ok w) e h = next w e (tree_made m t s v w found made e)
     from (Err cause) e h = h
 
--- ---- where a place stands
+-- ---- where a place is
 
 pub moved_once : (m : Mod) (t : WideTree) (at : Place) → moved_in_turn (m ∷ []) t at ≡ moved_place m t at
 moved_once m t at = from (outcome_tree (changed m t))

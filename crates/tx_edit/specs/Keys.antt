@@ -15,15 +15,15 @@ use Rattle.tx_edit.specs.declared.faults.EditFault.TheVariants.{NoText, AtStart,
 use Rattle.tx_edit.specs.declared.moves.Move.{Move}
 use Rattle.tx_edit.specs.declared.moves.Move.TheVariants.{Edit}
 
--- the text of the leaf at the path, if a leaf stands there
+-- the text of the leaf at the path, if a leaf is there
 abbrev pub text_at : WideTree → List ℕ → Option (List ℕ)
 text_at t path = option_and_then text_of (subtree t path)
 
--- a `document` stands at the path
+-- a `document` is at the path
 abbrev pub is_document_at : WideTree → List ℕ → Bool
 is_document_at t path = option_map_or (is_labelled (codes "document")) (subtree t path) false
 
--- a `concat` stands at the path
+-- a `concat` is at the path
 abbrev pub is_concat_at : WideTree → List ℕ → Bool
 is_concat_at t path = option_map_or (is_labelled (codes "concat")) (subtree t path) false
 
@@ -34,7 +34,7 @@ parent_of (i ∷ path) = Some (option_map_or (λ last. (i ∷ last.0, last.1)) (
 
 -- ---- typing
 
--- the text is put in at the place, and the cursor stands behind it
+-- the text is put in at the place, and the cursor is after it
 abbrev pub typed : WideTree → Place → List ℕ → Result Move EditFault
 typed t at text =
     option_map_or
@@ -52,7 +52,7 @@ cut_before text (suc o) = if is_cut text o then o else cut_before text o
 abbrev pub without_item : List ℕ → ℕ → ℕ → Move
 without_item path start end = Edit (Remove path start (end - start) ∷ []) (place path start)
 
--- child i of the node at the path, a text, takes in the next child, and the cursor stands between the two
+-- child i of the node at the path, a text, takes in the next child, and the cursor is between the two
 abbrev pub joined_behind : List ℕ → ℕ → List ℕ → Move
 joined_behind path i text = Edit (Join path i ∷ []) (place (path ++ i ∷ []) (length text))
 
@@ -71,17 +71,17 @@ abbrev pub erased_in : WideTree → List ℕ → ℕ → List ℕ → Result Mov
 erased_in t path o text =
     if o == 0 then joined_in t (parent_of path) else Ok (without_item path (cut_before text o) o)
 
--- behind an item that item is taken out, and at the start of a paragraph it is joined to the one before
+-- after an item that item is taken out, and at the start of a paragraph it is joined to the one before
 abbrev pub erased : WideTree → Place → Result Move EditFault
 erased t at = option_map_or (erased_in t at.path at.offset) (text_at t at.path) (Err NoText)
 
 -- ---- enter
 
--- child i of the node at the path becomes two, and the cursor stands before the second
+-- child i of the node at the path becomes two, and the cursor is before the second
 abbrev pub split_text : List ℕ → ℕ → ℕ → Move
 split_text path i o = Edit (Split path i o ∷ []) (place (path ++ (i + 1) ∷ []) 0)
 
--- Child j of child i of the node at the path becomes two, and then child i between these, where the cursor stands.
+-- Child j of child i of the node at the path becomes two, and then child i between these, where the cursor is.
 abbrev pub split_both : List ℕ → ℕ → ℕ → ℕ → Move
 split_both path i j o =
     Edit (Split (path ++ i ∷ []) j o ∷ Split path i (j + 1) ∷ []) (place (path ++ (i + 1) ∷ 0 ∷ []) 0)

@@ -25,6 +25,6 @@ abbrev pub to_right_of : List Place → Option ℕ → Result Move EditFault
 to_right_of stops None = to_stop stops 0 AtEnd
 to_right_of stops (Some k) = to_stop stops (k + 1) AtEnd
 
--- the stop behind the first one that is this place, or the first of all where none is
+-- the stop after the first one that is this place, or the first of all where none is
 abbrev pub to_right : List Place → Place → Result Move EditFault
 to_right stops at = to_right_of stops (stop_number stops at)

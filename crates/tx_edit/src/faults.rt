@@ -15,7 +15,7 @@ pub enum EditFault {
     /// There is nothing before the cursor that could be taken out, joined or gone to.
     #[error("nothing before the cursor")]
     AtStart,
-    /// There is nothing behind the cursor that could be gone to.
+    /// There is nothing after the cursor that could be gone to.
     #[error("nothing behind the cursor")]
     AtEnd,
     /// The text is neither a paragraph nor a part of one, so no paragraph can be split there.

@@ -87,7 +87,7 @@ fn join_to_former(alloc: Global, t: &Tree, path: &Path) -> Result<Move, EditFaul
 }
 
 /// Takes out the item before the cursor, which is a place of the tree. At the start of a text that is a child of a
-/// `document`, it joins the text to the one before it, and the cursor stands between the two. `NoText` comes exactly
+/// `document`, it joins the text to the one before it, and the cursor is between the two. `NoText` comes exactly
 /// where the cursor is not in a text, and `AtStart` exactly at every other start of a text. `Memory` may come at any
 /// time.
 pub fn backspace(alloc: Global, t: &Tree, cursor: &Place) -> Result<Move, EditFault>

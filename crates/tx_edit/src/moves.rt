@@ -17,7 +17,7 @@ pub enum Move {
     Go(Place),
 }
 
-// One modification, and the cursor behind it.
+// One modification, and the cursor after it.
 pub(crate) fn edit(alloc: Global, change: Mod, path: Path, offset: u32) -> Result<Move, Memory>
     ensures { IfOk result (λ m. m ≡ Move.Edit (change ∷ []) (place path offset)) }
 {
@@ -26,7 +26,7 @@ pub(crate) fn edit(alloc: Global, change: Mod, path: Path, offset: u32) -> Resul
     Ok(Move::Edit(ModList::from(mods), Place { path, offset }))
 }
 
-// Two modifications, and the cursor behind them.
+// Two modifications, and the cursor after them.
 pub(crate) fn edit_twice(
     alloc: Global,
     first: Mod,

@@ -1,4 +1,4 @@
-// What stands at a path, and above it.
+// What is at a path, and above it.
 ghost use Rattle.std.specs.Prelude.{◌≡◌, None, Some, MatchOption, IfOk};
 ghost use Rattle.tx_edit.specs.Keys.{text_at, is_document_at, is_concat_at, parent_of};
 
@@ -7,7 +7,7 @@ use tx_base::Memory;
 use tx_doc::is_labelled;
 use tx_tree::{Path, Text, Tree};
 
-// The text of the leaf at the path, if a leaf stands there.
+// The text of the leaf at the path, if a leaf is there.
 pub(crate) fn text_at<'a>(t: &'a Tree, path: &Path) -> Option<&'a Text>
     ensures { MatchOption result (text_at t.now path.now ≡ None) (λ text. text_at t.now path.now ≡ Some text.now) }
 {
@@ -17,7 +17,7 @@ pub(crate) fn text_at<'a>(t: &'a Tree, path: &Path) -> Option<&'a Text>
     }
 }
 
-// Whether a `document` stands at the path.
+// Whether a `document` is at the path.
 pub(crate) fn is_document_at(t: &Tree, path: &Path) -> bool
     ensures { result ≡ is_document_at t.now path.now }
 {
@@ -27,7 +27,7 @@ pub(crate) fn is_document_at(t: &Tree, path: &Path) -> bool
     }
 }
 
-// Whether a `concat` stands at the path.
+// Whether a `concat` is at the path.
 pub(crate) fn is_concat_at(t: &Tree, path: &Path) -> bool
     ensures { result ≡ is_concat_at t.now path.now }
 {

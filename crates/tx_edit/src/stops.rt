@@ -46,7 +46,7 @@ pub fn left(alloc: Global, stops: &[Place], cursor: &Place) -> Result<Move, Edit
     }
 }
 
-/// To the stop behind the first one that is the cursor. A cursor that is no stop goes to the first stop. `AtEnd` comes
+/// To the stop after the first one that is the cursor. A cursor that is no stop goes to the first stop. `AtEnd` comes
 /// exactly where there are no stops, or the first one that is the cursor is the last of all. `Memory` may come at any
 /// time.
 pub fn right(alloc: Global, stops: &[Place], cursor: &Place) -> Result<Move, EditFault>

@@ -22,7 +22,7 @@ use Rattle.tx_mod.proofs.Lists.{drop_past}
 use Rattle.tx_mod.proofs.Replacing.{replaced_down, text_in_replaced, arity_in_replaced, size_of_subtree, depth_with}
 use Rattle.tx_mod.proofs.Replacing.{with_same_child, child_of_with}
 
--- what makes no text of a text is want of memory
+-- what makes no text of a text is `Memory`
 pub sound_text : (bytes : List ℕ) (fault : TextFault) → IsText bytes → length bytes ≤ 1048575
     → (fault ≢ TextMemory → IsTextFault bytes fault) → fault ≡ TextMemory
 sound_text bytes (TooLong n) h short f = absurd (text_has_no_fault bytes (TooLong n) h short (f (λ e. cc)))
@@ -40,7 +40,7 @@ sound_node label ts TreeMemory w f = refl
 
 pub ruleset sound = (sound_text, sound_node)
 
--- three lists one behind the other
+-- three lists in order
 pub spliced_items : (ts us all first both : List WideTree) (from to : ℕ) → first ≡ take from ts → both ≡ first ++ us
     → all ≡ both ++ take (length ts - to) (drop to ts)
     → all ≡ take from ts ++ us ++ drop to ts

@@ -39,7 +39,7 @@ cut_of a b w n e f ha hb = (
       ∙ ap length ha.2,
 )
 
--- behind another text
+-- after another text
 pub cut_push : (a b w : List ℕ) (o n : ℕ) → w ≡ a ++ b → n ≡ length a + o → IsText a → IsCut b o → IsCut w n
 cut_push a b w o n e f ha h =
     let p = cut_parts b o h in

@@ -1,4 +1,4 @@
--- Where a path is carried, the same subtree stands.
+-- Where a path is carried, the same subtree is.
 use Rattle.std.proofs.Common.{◌≡◌, ℕ, ◌+◌, ◌-◌, ◌<◌, ◌≤◌, Bool, true, false, leb, ltb, eqb, List, [], ◌∷◌, ◌++◌, length}
 use Rattle.std.proofs.Common.{take, drop, Option, Some, None, Ok, refl, sym, ap, subst, ◌∙◌, arith}
 use Rattle.std.specs.Prelude.{slice_get, if◌then◌else◌, is_some, option_and_then, option_map}
@@ -183,7 +183,7 @@ right_child (node m ts) (node n us) c d l e f =
 
 -- ---- paths of the changed subtree
 
--- the same subtree stands where the path is carried
+-- the same subtree is where the path is carried
 abbrev Keeps : WideTree → WideTree → List ℕ → Option (List ℕ) → Type 0
 Keeps v x r o = o ≡ Some r → subtree v r ≡ Some x
 
@@ -321,7 +321,7 @@ keeps_at (RemoveNode p i) s v x q r e f = unwrap_keeps s v x i q r e f
 
 -- ---- paths of the whole tree
 
--- a path behind another leads on from where that leads
+-- a path after another leads on from where that leads
 pub subtree_behind : (p q : List ℕ) (t s : WideTree) → subtree t p ≡ Some s → subtree t (p ++ q) ≡ subtree s q
 subtree_behind [] q t s e = let same : t ≡ s = cc in ap (λ z. subtree z q) same
 subtree_behind (i ∷ p) q t s e = let d = down t i p s e in step_down t d.child i (p ++ q) d.found

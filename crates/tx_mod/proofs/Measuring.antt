@@ -254,7 +254,7 @@ halves (node l ts) j le =
     forest_trees_of nil = refl
     forest_trees_of (cons u us) = ap (λ x. cons u x) (forest_trees_of us)
 
--- what a split comes to
+-- what a split evaluates to
 pub split_is : (s : WideTree) (l : List ℕ) (ts : List WideTree) (i j : ℕ) (c : WideTree) → s ≡ node l (forest ts)
     → slice_get ts i ≡ Some c → split s i j ≡ split_child l ts i j c
 split_is s l ts i j c e f =

@@ -42,7 +42,7 @@ some_is x y h = cc
 none_some : {A : Type 0} (x : A) → None ≡ Some x → ⊥
 none_some x h = cc
 
--- A way of carrying what stands in a subtree keeps order there.
+-- A way of carrying what is in a subtree keeps order there.
 abbrev Keeps : WideTree → (List ℕ → Option (List ℕ)) → Type 0
 Keeps s g = (q r q1 r1 : List ℕ) (x y : WideTree) → subtree s q ≡ Some x → subtree s r ≡ Some y → IsBefore q r
     → g q ≡ Some q1 → g r ≡ Some r1 → IsBefore q1 r1
@@ -113,7 +113,7 @@ less_as : (r1 r2 : List ℕ) (a b : ℕ) (p q : List ℕ) → r1 ≡ a ∷ p →
     IsBefore r1 r2
 less_as r1 r2 a b p q e f h = subst (λ z. IsBefore z r2) (sym e) (subst (IsBefore (a ∷ p)) (sym f) h)
 
--- what a split or a join does with a path: it stands past the child, in it, or before it
+-- what a split or a join does with a path: it is past the child, in it, or before it
 data Cut (past front : ℕ) (k : ℕ) (u r : List ℕ) (k1 : ℕ) (high : ℕ → List ℕ → Type 0) (low : ℕ → List ℕ → Type 0) :
     Type 0 where
   Past : past < k → r ≡ k1 ∷ u → Cut past front k u r k1 high low
@@ -229,7 +229,7 @@ join_is i n k u r h = elim (chosen (nat_lt (i + 1) k) _ _ r h) as (λ z. JoinCut
     under : (i k : ℕ) → k ≤ i + 1 → (k ≡ i + 1 → ⊥) → (k ≡ i → ⊥) → k < i
     under i k le ne other = grind arith
 
--- a child of the child is before those that are put behind it
+-- a child of the child is before those that are put after it
 within_child : (s x : WideTree) (i m : ℕ) (w : List ℕ) → subtree s (i ∷ m ∷ w) ≡ Some x → m < extent (child_or_self s i)
 within_child s x i m w h =
     let a = first_within s x i (m ∷ w) h in
@@ -327,7 +327,7 @@ kind_keeps (RemoveNode p i) s = unwrap_keeps s i
 
 -- ---- below the path of a modification
 
--- what stands behind the base is carried so, and what the base is or begins with goes
+-- what is after the base is carried so, and what the base is or begins with goes
 abbrev lifted : (List ℕ → Option (List ℕ)) → List ℕ → List ℕ → Option (List ℕ)
 lifted g base q = option_map_or (λ r. option_map (λ v. base ++ v) (g r)) (rest_behind base q)
     (if is_some (rest_behind q base) then None else Some q)

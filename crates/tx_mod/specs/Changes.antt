@@ -129,7 +129,7 @@ changed m t =
     option_map_or (λ s. put_back t (path_of m) (changed_at m s)) (subtree t (path_of m))
     (Err (NoPath (leading t (path_of m))))
 
--- the cause is that of the outcome, or want of memory
+-- the cause is that of the outcome, or `Memory`
 abbrev pub IsRefusal : Outcome → ApplyFault → Type 0
 IsRefusal outcome (Refused cause) = outcome ≡ Err cause
 IsRefusal outcome Memory = Unit {0}

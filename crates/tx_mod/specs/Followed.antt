@@ -16,7 +16,7 @@ StaysPlace m t at =
     (u : WideTree) → IsSoundMod m → IsWellFormed t → changed m t ≡ Ok u → IsPlace t at.path at.offset
     → IsPlace u (moved_place m t at).path (moved_place m t at).offset
 
--- where a path is carried, the same subtree stands
+-- where a path is carried, the same subtree is
 abbrev pub CarriesSubtree : Mod → WideTree → List ℕ → Type 0
 CarriesSubtree m t q = (u x : WideTree) (r : List ℕ) → changed m t ≡ Ok u → subtree t q ≡ Some x
     → carried_path m t q ≡ Some r → subtree u r ≡ Some x
@@ -31,7 +31,7 @@ abbrev pub changed_by_all : List Mod → WideTree → Option WideTree
 changed_by_all [] t = Some t
 changed_by_all (m ∷ ms) t = option_and_then (changed_by_all ms) (outcome_tree (changed m t))
 
--- where the subtree at q stands after all modifications, one after the other
+-- where the subtree at q is after all modifications, one after the other
 abbrev pub carried_by_all : List Mod → WideTree → List ℕ → Option (List ℕ)
 carried_by_all [] t q = Some q
 carried_by_all (m ∷ ms) t q =
@@ -48,7 +48,7 @@ PathStopsAt ms m ns t q =
     (u : WideTree) (r : List ℕ) → changed_by_all ms t ≡ Some u → carried_by_all ms t q ≡ Some r
     → carried_path m u r ≡ None → carried_by_all (ms ++ m ∷ ns) t q ≡ None
 
--- where a path is carried through all modifications, the same subtree stands
+-- where a path is carried through all modifications, the same subtree is
 abbrev pub CarriesThroughAll : List Mod → WideTree → List ℕ → Type 0
 CarriesThroughAll ms t q = (u x : WideTree) (r : List ℕ) → changed_by_all ms t ≡ Some u → subtree t q ≡ Some x
     → carried_by_all ms t q ≡ Some r → subtree u r ≡ Some x

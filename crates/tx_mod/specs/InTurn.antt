@@ -28,7 +28,7 @@ abbrev pub inverses_of : List Mod → WideTree → List Mod
 inverses_of [] t = []
 inverses_of (m ∷ ms) t = option_map_or (inverses_of ms) (outcome_tree (changed m t)) [] ++ inverse_of m t ∷ []
 
--- where a place of the tree t stands after all modifications
+-- where a place of the tree t is after all modifications
 abbrev pub moved_in_turn : List Mod → WideTree → Place → Place
 moved_in_turn [] t at = at
 moved_in_turn (m ∷ ms) t at =

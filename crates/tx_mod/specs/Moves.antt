@@ -1,4 +1,4 @@
--- Where places and paths stand after a modification.
+-- Where places and paths are after a modification.
 use Rattle.std.specs.Prelude.{ℕ, ◌+◌, ◌-◌, ◌==◌, nat_le, nat_lt, if◌then◌else◌, List, []}
 use Rattle.std.specs.Prelude.{◌∷◌, ◌++◌, Option, Some, None, is_some, option_map, slice_get}
 use Rattle.std.specs.Option.{option_map_or}
@@ -10,7 +10,7 @@ use Rattle.tx_mod.specs.declared.mods.Mod.TheVariants.{Assign, Insert, Remove, S
 use Rattle.tx_mod.specs.declared.mods.Mod.TheVariants.{AssignNode, InsertNode, RemoveNode}
 use Rattle.tx_mod.specs.Mods.{path_of, extent}
 
--- what stands behind p in q, where q begins with p
+-- what is after p in q, where q begins with p
 abbrev pub rest_behind : List ℕ → List ℕ → Option (List ℕ)
 rest_behind [] q = Some q
 rest_behind (i ∷ p) [] = None
@@ -27,7 +27,7 @@ place_from_above p at = place (p ++ at.path) at.offset
 abbrev pub child_or_self : WideTree → ℕ → WideTree
 child_or_self s i = option_map_or (λ c. c) (slice_get (children_of s) i) s
 
--- The tables below say where a place or a path of the subtree stands. Both are seen from the path of the modification.
+-- The tables below say where a place or a path of the subtree is. Both are seen from the path of the modification.
 
 -- n more from i on
 abbrev pub shifted : ℕ → ℕ → ℕ → ℕ
@@ -57,7 +57,7 @@ moved_by_split s i j (k ∷ u) o =
     then place ((k + 1) ∷ u) o
     else (if k == i then moved_in_split (child_or_self s i) i j u o else place (k ∷ u) o)
 
--- a place of child i + 1, which becomes the end of child i, behind n bytes or children
+-- a place of child i + 1, which becomes the end of child i, after n bytes or children
 abbrev pub moved_in_join : WideTree → ℕ → ℕ → List ℕ → ℕ → Place
 moved_in_join (leaf text) i n u o = place (i ∷ u) (o + n)
 moved_in_join (node l ts) i n [] o = place (i ∷ []) o
@@ -86,7 +86,7 @@ moved_at (AssignNode p l) s r o = place r o
 moved_at (InsertNode p i x) s r o = place (i ∷ r) o
 moved_at (RemoveNode p i) s r o = moved_by_unwrap i r o
 
--- where a place of the tree t stands afterwards
+-- where a place of the tree t is afterwards
 abbrev pub moved_place : Mod → WideTree → Place → Place
 moved_place m t at =
     option_map_or (λ s.
@@ -144,7 +144,7 @@ carried_at (AssignNode p l) s r = some_path r
 carried_at (InsertNode p i x) s r = Some (i ∷ r)
 carried_at (RemoveNode p i) s r = carried_by_unwrap i r
 
--- where the unchanged subtree of t at q stands afterwards
+-- where the unchanged subtree of t at q is afterwards
 abbrev pub carried_path : Mod → WideTree → List ℕ → Option (List ℕ)
 carried_path m t q =
     option_map_or (λ s.

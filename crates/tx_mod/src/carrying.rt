@@ -1,4 +1,4 @@
-// Where an unchanged subtree stands afterwards. Paths are seen from the changed subtree.
+// Where an unchanged subtree is afterwards. Paths are seen from the changed subtree.
 ghost use Rattle.std.specs.Prelude.{◌≡◌, ◌≤◌, IfOk, IsOk, IsSome, None, Some, MatchOption, OnErr, if◌then◌else◌, true, false, Ok};
 ghost use Rattle.tx_tree.specs.Paths.{subtree};
 ghost use Rattle.tx_mod.specs.Changes.{changed};
@@ -70,7 +70,7 @@ fn carried_by_split(i: u32, j: u32, rest: &[u32]) -> Option<Way<'_>>
     Some(Way::Step(k, others))
 }
 
-// A path below child i + 1, which becomes the end of child i, behind n children.
+// A path below child i + 1, which becomes the end of child i, after n children.
 fn carried_in_join(i: u32, n: u32, rest: &[u32]) -> Option<Way<'_>>
     requires extent { n ≤ 1048575 }
     requires small { AreChildNumbers rest.now }
@@ -139,7 +139,7 @@ fn carried_at<'a>(m: &Mod, s: &Tree, rest: &'a [u32]) -> Option<Way<'a>>
     }
 }
 
-/// Where the subtree that the path leads to stands after the modification, or None where it is taken out, changed
+/// Where the subtree that the path leads to is after the modification, or None where it is taken out, changed
 /// or not a subtree any more. The modification applies, and the path leads to a subtree.
 pub fn carried(alloc: Global, t: &Tree, m: &Mod, path: &Path) -> Result<Option<Path>, Memory>
     requires applicable { IsOk (changed m.now t.now) }
@@ -163,7 +163,7 @@ pub fn carried(alloc: Global, t: &Tree, m: &Mod, path: &Path) -> Result<Option<P
 }
 
 /// Carries the path in place, as `carried` does, and tells whether it leads on. A path that leads on nowhere stays, and
-/// so does one after want of memory. Where the path of the modification neither begins this one nor goes on from it,
+/// so does one after `Memory`. Where the path of the modification neither begins this one nor goes on from it,
 /// nothing is copied.
 pub fn carry_in_place(alloc: Global, t: &Tree, m: &Mod, path: &mut Path) -> Result<bool, Memory>
     requires applicable { IsOk (changed m.now t.now) }

@@ -16,7 +16,7 @@ pub enum ModFault {
     /// A node is to be put into a text.
     #[error("a text is wanted")]
     NotString,
-    /// A text stands where a node is wanted, or another node than a `tuple` is to be put among children.
+    /// A text is where a node is wanted, or another node than a `tuple` is to be put among children.
     #[error("a node is wanted")]
     NotNode,
     /// The place is past the end: the bytes of the leaf, or the children of the node.

@@ -54,7 +54,7 @@ pub fn moved_law()
     ensures { (m : Change) (t : WideTree) (at : Position) → StaysPlace m t at }
 {}
 
-/// Where a path that leads is carried, the same subtree stands in the changed tree.
+/// Where a path that leads is carried, the same subtree is in the changed tree.
 pub fn carried_law()
     ensures { (m : Change) (t : WideTree) (q : List ℕ) → CarriesSubtree m t q }
 {}

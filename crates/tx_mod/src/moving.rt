@@ -1,4 +1,4 @@
-// Where a place of the changed subtree stands afterwards. Paths are seen from that subtree.
+// Where a place of the changed subtree is afterwards. Paths are seen from that subtree.
 ghost use Rattle.std.specs.Prelude.{◌≡◌, ◌≤◌, ◌+◌, [], IfOk, IsOk, Ok, length};
 ghost use Rattle.tx_tree.specs.Places.{IsPlace};
 ghost use Rattle.tx_tree.specs.WideTree.{WideTree};
@@ -136,7 +136,7 @@ fn moved_by_split<'a>(s: &Tree, i: u32, j: u32, rest: &'a [u32], offset: u32) ->
     Way::Step(k, others).at(offset)
 }
 
-// A place of child i + 1, which becomes the end of child i, behind n bytes or children.
+// A place of child i + 1, which becomes the end of child i, after n bytes or children.
 fn moved_in_join<'a>(c: &Tree, i: u32, n: u32, rest: &'a [u32], offset: u32) -> Stand<'a>
     requires extent { n ≤ 1048575 }
     requires small { AreChildNumbers rest.now }
@@ -221,7 +221,7 @@ fn place_after(alloc: Global, t: &Tree, m: &Mod, place: &Place) -> Result<Place,
     })
 }
 
-/// Where a place of the tree stands after the modification, which applies; it is a place of the changed tree. What is
+/// Where a place of the tree is after the modification, which applies; it is a place of the changed tree. What is
 /// taken out is left for the place where it was taken out, or for the place before the changed subtree.
 pub fn moved(alloc: Global, t: &Tree, m: &Mod, place: &Place) -> Result<Place, Memory>
     requires applicable { IsOk (changed m.now t.now) }

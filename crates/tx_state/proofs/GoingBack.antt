@@ -267,7 +267,7 @@ step_counted b e t old new same w applies h = by_test (e.buffer == b) refl
 
 -- ---- the walk
 
--- the walk is at the tree t, behind the first i entries, with these edits
+-- the walk is at the tree t, after the first i entries, with these edits
 pub record IsWalking (b : ℕ) (es : List Entry) (i : ℕ) (start t : WideTree) (found : List (List Mod)) : Type 0 where
   pub apply : AllApplyIn b (drop i es) t
   pub tree : tree_back b es start ≡ tree_back b (drop i es) t

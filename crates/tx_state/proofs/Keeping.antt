@@ -30,7 +30,7 @@ led : (s : Inside) (p : Prepared) → IsKept s → IsReadyChange (stored_state s
     → IsLedBack s.buffers.items p.buffer p.tree p.back s.cursor
 led s p kept r = record { within = r.buffer; returns = r.back; place = kept.cursor }
 
--- the fields behind a change, with the entries that are known
+-- the fields after a change, with the entries that are known
 record IsNext (s next : Inside) (p : Prepared) (past future : List Entry) : Type 0 where
   done : reverse next.history.past ≡ past
   left : reverse next.history.future ≡ future

@@ -1,4 +1,4 @@
--- What stands ready.
+-- What is ready.
 use Rattle.std.proofs.Common.{◌≡◌, ℕ, zero, suc, ◌<◌, ◌≤◌, ◌+◌, ◌*◌, ◌-◌, Bool, true, false, List, [], ◌∷◌, ◌++◌}
 use Rattle.std.proofs.Common.{length, take, drop, reverse, Option, Some, None, Ok, Err, refl, sym, ap, ◌∙◌, subst}
 use Rattle.std.proofs.Common.{arith}
@@ -143,7 +143,7 @@ newest_of entries e h =
     let front : List Entry = take (length entries - 1) entries in
     record { rest = reverse front; is = turned_round front e entries (with_last entries e h) }
 
--- what an undo and a redo promise beside the change that stands ready
+-- what an undo and a redo promise beside the change that is ready
 pub record IsUndoReady (s : State) (p : Prepared) : Type 0 where
   pub ready : IsReadyUndo s p
   pub inverses : (e : KeptEdit) (past : List KeptEdit) → s.past ≡ e ∷ past

@@ -31,7 +31,7 @@ length_set [] k b = refl
 length_set (a ∷ bs) zero b = refl
 length_set (a ∷ bs) (suc k) b = ap suc (length_set bs k b)
 
--- what stands there, and what else is there, after a tree is put in
+-- what is there, and what else is there, after a tree is put in
 pub tree_put : (bs : List Buffer) (k : ℕ) (u : WideTree) → k < length bs → tree_of (with_tree bs k u) k ≡ u
 tree_put bs k u lt =
     let found = buffer_at bs k lt in

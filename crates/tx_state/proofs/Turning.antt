@@ -34,7 +34,7 @@ lead_back bs k u back c es h all =
       subst (λ cs. EntriesLead cs es) (sym there) all,
     )
 
--- the edits behind an entry that leads back
+-- the edits after an entry that leads back
 edits_back : (how : How) (bs : List Buffer) (k : ℕ) (u : WideTree) (back mods : List Mod) (c : Place) (es : List Entry)
     → IsLedBack bs k u back c
     → how (with_tree bs k u) (entry_of k back c) ≡ mods
@@ -62,6 +62,6 @@ pub redoes_back : (bs : List Buffer) (k : ℕ) (u : WideTree) (back : List Mod) 
     ≡ record { moment = record { buffers = bs; cursor = c }; buffer = k; mods = back } ∷ kept_edits redoes bs es
 redoes_back bs k u back c es h = edits_back redoes bs k u back back c es h refl
 
--- the newest entry stands first in the list turned round
+-- the newest entry is first in the list turned round
 pub turned_round : (es : List Entry) (e : Entry) (all : List Entry) → all ≡ es ++ e ∷ [] → reverse all ≡ e ∷ reverse es
 turned_round es e all h = ap reverse h ∙ reverse-append es (e ∷ [])

@@ -1,4 +1,4 @@
--- What changes on the way to what stands ready. Only private clauses cite this.
+-- What changes on the way to what is ready. Only private clauses cite this.
 use Rattle.std.specs.Prelude.{◌≡◌, List, Option, IfSome, Ok}
 use Rattle.tx_mod.specs.InTurn.{changed_in_turn, inverses_of, AreUndone}
 use Rattle.tx_doc.specs.Buffers.{tree_of}
@@ -13,7 +13,7 @@ use Rattle.tx_tree.specs.declared.places.Place.{Place}
 abbrev pub IsPlaceIn : WideTree → Option Place → Type 0
 IsPlaceIn t at = IfSome at (λ p. IsPlace t p.path p.offset)
 
--- what stands ready is what the entry makes of its buffer's tree
+-- what is ready is what the entry makes of its buffer's tree
 pub record IsAlong (buffers : List Buffer) (entry : Entry) (p : Prepared) : Type 0 where
   pub buffer : p.buffer ≡ entry.buffer
   pub tree : changed_in_turn entry.mods (tree_of buffers entry.buffer) ≡ Ok p.tree

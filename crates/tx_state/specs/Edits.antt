@@ -17,7 +17,7 @@ use Rattle.tx_state.specs.declared.TheConstants.{MOST_UNDO}
 use Rattle.tx_state.specs.declared.edits.Edit.{Edit}
 use Rattle.tx_state.specs.States.{State, KeptEdit, present}
 
--- Where the cursor stands after an edit: where the edit says, or where its modifications of the document move it. An
+-- Where the cursor is after an edit: where the edit says, or where its modifications of the document move it. An
 -- edit of another buffer leaves it.
 abbrev pub cursor_after : Edit → State → Place
 cursor_after edit state =

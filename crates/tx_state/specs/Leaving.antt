@@ -14,7 +14,7 @@ use Rattle.tx_state.specs.States.{State, KeptEdit}
 abbrev pub mods_in : ℕ → KeptEdit → List Mod
 mods_in buffer kept = if kept.buffer == buffer then kept.mods else []
 
--- The edit is left out, before the later ones, of which the last one stands first.
+-- The edit is left out, before the later ones, of which the last one is first.
 abbrev pub left_before : KeptEdit → List KeptEdit → LeftOut
 left_before kept later =
     left_out (tree_of kept.moment.buffers kept.buffer) kept.mods (reverse (map (mods_in kept.buffer) later))

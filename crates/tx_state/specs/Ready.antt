@@ -1,4 +1,4 @@
--- Changes that stand ready, before they are put in place.
+-- Changes that are ready, before they are put in place.
 use Rattle.std.specs.Prelude.{◌≡◌, ◌<◌, ◌*◌, ℕ, List, [], ◌∷◌, length, drop, Some, Ok}
 use Rattle.tx_tree.specs.WideTree.{WideTree}
 use Rattle.tx_tree.specs.Places.{IsPlace}
@@ -9,7 +9,7 @@ use Rattle.tx_state.specs.declared.edits.Prepared.{Prepared}
 use Rattle.tx_state.specs.Edits.{edited_to, undone_state, redone_state}
 use Rattle.tx_state.specs.States.{State, KeptEdit, present}
 
--- What stands ready leads from the state: its modifications make its tree of the buffer's tree, those that lead back
+-- What is ready leads from the state: its modifications make its tree of the buffer's tree, those that lead back
 -- are their inverses and are undone by them, and its cursor is a place of the document afterwards.
 pub record IsReadyChange (state : State) (p : Prepared) : Type 0 where
   pub buffer : p.buffer < length state.buffers
@@ -45,7 +45,7 @@ with_redo state p =
       future = drop 1 state.future;
     }
 
--- what stands ready is the undo, or the redo, of this state
+-- what is ready is the undo, or the redo, of this state
 pub record IsReadyUndo (state : State) (p : Prepared) : Type 0 where
   pub ready : IsReadyChange state p
   pub is : undone_state state ≡ Some (with_undo state p)

@@ -11,7 +11,7 @@ pub record StateMoment : Type 0 where
   pub buffers : List Buffer
   pub cursor : Place
 
--- An edit that can be taken back, with the moment before it, or one that can be made again, with the moment behind it:
+-- An edit that can be taken back, with the moment before it, or one that can be made again, with the moment after it:
 -- the buffer that it changes, and its modifications.
 pub record KeptEdit : Type 0 where
   pub moment : StateMoment

@@ -24,7 +24,7 @@ pub(crate) struct Changing {
     pub place: Option<Place>,
 }
 
-// Where the place stands afterwards, if there is one.
+// Where the place is afterwards, if there is one.
 fn moved_if(
     alloc: Global,
     t: &Tree,
@@ -66,7 +66,7 @@ fn change_once<L: Ledger>(
     Ok(())
 }
 
-// The tree changed by all modifications, their inverses from the last to the first, and where the place stands.
+// The tree changed by all modifications, their inverses from the last to the first, and where the place is.
 pub(crate) fn change_in_turn<L: Ledger>(
     alloc: Global,
     t: &Tree,

@@ -1,4 +1,4 @@
-// Where the cursor stands at first.
+// Where the cursor is at first.
 ghost use Rattle.std.specs.Prelude.{◌≡◌, ◌++◌, ℕ, List, IfOk, Some, None, Bool, true, false};
 ghost use Rattle.tx_state.specs.Cursors.{first_leaf, first_cursor};
 ghost use Rattle.tx_state.specs.Walks.{WalkGoesOn};

@@ -15,7 +15,7 @@ pub struct Edit {
     pub cursor: Option<Place>,
 }
 
-/// A change of a state that stands ready to be put in place.
+/// A change of a state that is ready to be put in place.
 #[derive(Drop)]
 pub struct Prepared {
     /// The number of the buffer, from 0.

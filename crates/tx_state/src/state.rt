@@ -63,7 +63,7 @@ impl Model for EditorState {
     ghost invariant = { IsKept };
 }
 
-// Puts a tree and a cursor in place of the present ones, and answers the former ones.
+// Puts a tree and a cursor in place of the present ones, and returns the former ones.
 fn exchange(
     buffers: &mut Vec<Buffer>,
     cursor: &mut Place,
@@ -85,7 +85,7 @@ impl EditorState {
     #[tactic(auto, using(crate::proofs::Leaves::first_place, std::proofs::lemmas::Grind::common_steps))]
     /// The state in which a session begins with these buffers, of which there are 1 to 64, no two of one name. The
     /// document is selected. The cursor is before the first leaf of the document's body, or before the body where it
-    /// has none, or before the root where there is no body. The one error is want of memory.
+    /// has none, or before the root where there is no body. The one error is `Memory`.
     pub fn open(alloc: Global, buffers: Vec<Buffer>) -> Result<EditorState, Memory>
         requires some { 1 ≤ length buffers.items }
         requires few { length buffers.items ≤ MOST_BUFFERS }
@@ -205,7 +205,7 @@ impl EditorState {
         })
     }
 
-    /// Puts an edit in place that was made ready for this state, and answers the buffer's former tree. It takes no
+    /// Puts an edit in place that was made ready for this state, and returns the buffer's former tree. It takes no
     /// memory. The moment before can be undone, of the last 1,000, and what was undone can't be redone any more.
     pub fn finish_edit(&mut self, prepared: Prepared) -> Tree
         requires { IsReadyChange self.old prepared }
@@ -248,7 +248,7 @@ impl EditorState {
         }
     }
 
-    /// Puts in place that the last edit is taken back, as it was made ready for this state, and answers the buffer's
+    /// Puts in place that the last edit is taken back, as it was made ready for this state, and returns the buffer's
     /// former tree. It takes no memory. Buffers and cursor are those before the edit.
     pub fn finish_undo(&mut self, prepared: Prepared) -> Tree
         requires { IsReadyUndo self.old prepared }
@@ -294,7 +294,7 @@ impl EditorState {
         }
     }
 
-    /// Puts in place that an edit is made again, as it was made ready for this state, and answers the buffer's former
+    /// Puts in place that an edit is made again, as it was made ready for this state, and returns the buffer's former
     /// tree. It takes no memory.
     pub fn finish_redo(&mut self, prepared: Prepared) -> Tree
         requires { IsReadyRedo self.old prepared }

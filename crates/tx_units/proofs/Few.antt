@@ -28,7 +28,7 @@ use Rattle.tx_units.proofs.Within.{child_inside, section_inside}
 abbrev Names : Type 0
 Names = List (List ℕ)
 
--- ---- names that stand once each
+-- ---- names that occur once each
 
 abbrev Apart : Names → Type 0
 Apart [] = Unit {0}
@@ -129,7 +129,7 @@ none_of (n ∷ ns) = omega (arith, none_of ns)
 abbrev named_by : List Buffer → List ℕ → Bool
 named_by bs n = list_any (λ b. bytes_eq b.name n) bs
 
--- names that stand once each name no more buffers than there are
+-- names that occur once each name no more buffers than there are
 few_named : (bs : List Buffer) (ns : Names) → Apart ns → how_many (named_by bs) ns ≤ length bs
 few_named [] ns h = omega (arith, none_of ns)
 few_named (b ∷ bs) ns h =

@@ -1,4 +1,4 @@
--- Units that stand before those of the body: each is made by `unit`, so none has a path.
+-- Units that are before those of the body: each is made by `unit`, so none has a path.
 use Rattle.std.proofs.Common.{◌≡◌, ℕ, zero, suc, ◌+◌, Bool, true, false, cond, List, [], ◌∷◌, ◌++◌, map, Option, Some}
 use Rattle.std.proofs.Common.{None}
 use Rattle.std.proofs.Common.{refl, sym, ap, ◌∙◌}
@@ -70,7 +70,7 @@ no_paths document styles =
     (all_flat (named_units styles) (named_front styles) (style_names document))
     (all_flat entry_units entry_front (entries document)))
 
--- ---- a unit with a path stands behind them
+-- ---- a unit with a path is after them
 
 pub record IsBehind (i : ℕ) (x : WideTree) (front us : List DocUnit) (u : DocUnit) : Type 0 where
   pub number : ℕ

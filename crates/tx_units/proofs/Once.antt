@@ -1,4 +1,4 @@
--- A name that is put behind others, each of which stands there once.
+-- A name that is put after others, each of which is there once.
 use Rattle.std.proofs.Common.{◌≡◌, ℕ, ◌+◌, ◌<◌, Bool, true, false, cond, List, [], ◌∷◌, ◌++◌, length, take, get_or}
 use Rattle.std.proofs.Common.{refl, sym, ap, ◌∙◌}
 use Rattle.std.specs.Prelude.{not, if◌then◌else◌, ◌||◌, Option, Some, None}

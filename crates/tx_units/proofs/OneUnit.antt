@@ -53,7 +53,7 @@ other_label l m (leaf text) ne e = absurd cc
 other_label l m (node k ts) ne e =
     let same : k ≡ l = (bytes_decides k l).0 e in ap (λ j. bytes_eq j m) same ∙ ne
 
--- ---- what stands before the body
+-- ---- what is before the body
 
 -- two documents have the same sections
 pub record HaveSameSections (t u : WideTree) : Type 0 where
@@ -138,7 +138,7 @@ body_at t c b k d e f g =
 
 -- ---- what changes
 
--- what stands before the body stays, and unit j of the body has the tree x
+-- what is before the body stays, and unit j of the body has the tree x
 pub record ChangesAt (t u : WideTree) (j : ℕ) (x : WideTree) : Type 0 where
   pub front : (styles : List Buffer) → front_units u styles ≡ front_units t styles
   pub units_are : body_units u ≡ units_with j x (body_units t)

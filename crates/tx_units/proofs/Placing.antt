@@ -1,4 +1,4 @@
--- The units of a body stand in the document, each at a path of its own.
+-- The units of a body are in the document, each at a path of its own.
 use Rattle.std.proofs.Common.{◌≡◌, ℕ, suc, ◌+◌, ◌<◌, Bool, true, false, List, [], ◌∷◌, ◌++◌, length, map, refl, sym, ap}
 use Rattle.std.proofs.Common.{subst, arith, length-append, get_or, ◌∙◌}
 use Rattle.std.proofs.lemmas.List.{append-nil}
@@ -12,7 +12,7 @@ use Rattle.tx_units.specs.Documents.{is_document}
 use Rattle.tx_units.specs.Places.{UnitStandsIn, AreApart, NoneBegins}
 use Rattle.tx_units.specs.Units.{body_unit, units_at, body_units}
 
--- a child of what stands at a path stands behind it
+-- a child of what is at a path is after it
 below : (t s c : WideTree) (path : List ℕ) (i : ℕ) → subtree t path ≡ Some s → slice_get (children_of s) i ≡ Some c
     → subtree t (path ++ i ∷ []) ≡ Some c
 below t s c [] i e h = let same : t ≡ s = cc in rw same (ap (option_and_then (λ u. Some u)) h)

@@ -81,7 +81,7 @@ fraction =
 abbrev root : WideTree
 root = macro_of (codes "x" ∷ []) (joined (leaf (codes "sqrt(") ∷ arg (codes "x") ∷ leaf (codes ")") ∷ []))
 
--- a macro that shows its argument behind a sign, and one that shows it styled
+-- a macro that shows its argument after a sign, and one that shows it styled
 abbrev signed : List ℕ → WideTree
 signed sign = macro_of (codes "x" ∷ []) (joined (leaf sign ∷ arg (codes "x") ∷ []))
 

@@ -24,12 +24,12 @@ abbrev pub names_in : WideTree → List (List ℕ)
 names_in (leaf text) = text ∷ []
 names_in (node label ts) = if bytes_eq label (codes "tuple") then filter_map text_of (trees ts) else []
 
--- the names, each once, where it first stands
+-- the names, each once, where it first is
 abbrev pub each_once : List (List ℕ) → List (List ℕ)
 each_once [] = []
 each_once (name ∷ names) = name ∷ filter (λ other. not (bytes_eq other name)) (each_once names)
 
--- the names, and behind them another that isn't one of them
+-- the names, and after them another that isn't one of them
 abbrev pub put_name : List (List ℕ) → Option (List ℕ) → List (List ℕ)
 put_name names None = names
 put_name names (Some name) = if list_any (bytes_eq name) names then names else names ++ name ∷ []

@@ -11,7 +11,7 @@ use Rattle.tx_units.specs.Units.{units, units_with}
 use Rattle.tx_units.specs.declared.kinds.Unit.{Unit as DocUnit}
 
 -- Whether a tree at this depth has a label by which a part of the document is found there. The body may be a
--- `document`, which is the root or stands in a `body`; a section is a child of the root.
+-- `document`, which is the root or is in a `body`; a section is a child of the root.
 abbrev pub is_part : ℕ → WideTree → Bool
 is_part zero t = is_document t
 is_part (suc zero) t = is_body t || (is_labelled (codes "style") t || is_labelled (codes "initial") t)
@@ -28,7 +28,7 @@ pub record HasOtherChild (i : ℕ) (c d t u : WideTree) : Type 0 where
   pub there : slice_get (children_of t) i ≡ Some c
   pub others : children_of u ≡ slice_set (children_of t) i d
 
--- the trees are the same but for what stands at the path
+-- the trees are the same but for what is at the path
 abbrev pub AreSameBut : List ℕ → WideTree → WideTree → Type 0
 AreSameBut [] t u = Unit {0}
 AreSameBut (i ∷ p) t u = (c d : WideTree) × HasOtherChild i c d t u × AreSameBut p c d

@@ -1,4 +1,4 @@
--- Where the units of a body stand.
+-- Where the units of a body are.
 use Rattle.std.specs.Prelude.{◌≡◌, ℕ, List, [], ◌∷◌, ◌++◌, Option, Some}
 use Rattle.std.specs.List.{AllByRecursion}
 use Rattle.tx_tree.specs.Paths.{subtree}
@@ -6,7 +6,7 @@ use Rattle.tx_tree.specs.WideTree.{WideTree}
 use Rattle.tx_units.specs.declared.kinds.Unit.{Unit as DocUnit}
 use Rattle.tx_units.specs.declared.kinds.UnitKind.TheVariants.{Body}
 
--- the unit is a paragraph of the document: its tree stands at its path, and the root is its origin
+-- the unit is a paragraph of the document: its tree is at its path, and the root is its origin
 pub record UnitStandsIn (document : WideTree) (u : DocUnit) : Type 0 where
   pub path : List ℕ
   pub has_path : u.path ≡ Some path

@@ -37,7 +37,7 @@ loaded_units k t = map (unit (Style k)) (paragraphs t)
 abbrev pub absent_unit : List ℕ → DocUnit
 absent_unit name = unit Absent (tag (codes "error") (leaf (codes "undefined-style") ∷ leaf name ∷ []))
 
--- what a name gives. The loaded styles are buffer 1 and those behind it; `generic` is none.
+-- what a name gives. The loaded styles are buffer 1 and those after it; `generic` is none.
 abbrev pub named_units : List Buffer → List ℕ → List DocUnit
 named_units styles name =
     if bytes_eq name (codes "generic") then []
@@ -60,7 +60,7 @@ initial_units document = flat_map entry_units (entries document)
 
 -- ---- the body
 
--- the paragraphs of a body that stands at this path, each with its own path
+-- the paragraphs of a body that is at this path, each with its own path
 abbrev pub units_at : List ℕ → WideTree → List DocUnit
 units_at path body =
     if is_document body then map (λ p. body_unit p.1 (path ++ p.0 ∷ [])) (enumerate_from 0 (children_of body))
@@ -72,7 +72,7 @@ body_units document =
 
 -- ---- all of them
 
--- those that stand before the body's
+-- those that are before the body's
 abbrev pub front_units : WideTree → List Buffer → List DocUnit
 front_units document styles = base_units ++ (style_units document styles ++ initial_units document)
 
@@ -94,7 +94,7 @@ units_with (suc i) t (u ∷ us) = u ∷ units_with i t us
 
 -- ---- what they are made of
 
--- How many nodes of a unit's tree, leaves aside, stand in no buffer: all of a base unit's, the error of an absent
+-- How many nodes of a unit's tree, leaves aside, are in no buffer: all of a base unit's, the error of an absent
 -- style, and the two nodes that an entry of the initial environment gets.
 abbrev pub made_as : UnitKind → WideTree → ℕ
 made_as Base t = nodes_of t

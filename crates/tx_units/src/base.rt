@@ -97,7 +97,7 @@ fn spelled_units<L: Ledger>(
     Ok(units)
 }
 
-/// The units of the base style, each of which assigns a value to a name. Whatever it answers, the steps rise by at most
+/// The units of the base style, each of which assigns a value to a name. Whatever it returns, the steps rise by at most
 /// the nodes of their trees that aren't leaves.
 pub fn base_units<L: Ledger>(alloc: Global, steps: &mut Steps<L>) -> Result<Vec<Unit>, Memory>
     ensures units { IfOk result (λ us. us.items ≡ base_units) }

@@ -22,7 +22,7 @@ pub enum UnitKind {
     Body,
 }
 
-/// A tree that is evaluated by itself, behind the units before it. It needs no memory of its own: its tree is shared,
+/// A tree that is evaluated by itself, after the units before it. It needs no memory of its own: its tree is shared,
 /// and a path of up to six numbers is held in place.
 #[derive(Drop)]
 pub struct Unit {
@@ -46,7 +46,7 @@ impl Unit {
         }
     }
 
-    /// The paragraph of the body that stands at this path.
+    /// The paragraph of the body that is at this path.
     pub(crate) fn of_body(tree: Tree, path: Path) -> Unit
         ensures { result ≡ body_unit tree path }
     {

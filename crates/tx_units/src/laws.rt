@@ -17,7 +17,7 @@ pub fn unit_count_law(buffers: &[Buffer])
     formed_law(buffers);
 }
 
-/// A law: the units of a body are paragraphs of the document, with its root as origin, and their trees stand at their
+/// A law: the units of a body are paragraphs of the document, with its root as origin, and their trees are at their
 /// paths. No path is that of another, or begins one.
 pub fn body_laws()
     ensures stand { (t : WideTree) → AllByRecursion (UnitStandsIn t) (body_units t) }
