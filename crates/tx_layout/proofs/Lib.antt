@@ -8,3 +8,4 @@ mod Kept
 mod Room
 mod Paged
 mod Telling
+mod OneLines

@@ -21,7 +21,7 @@ use Rattle.tx_layout.proofs.Slices.{at_slice, at_drop, cells_le}
 no_chance : (i : Item) → Breakable i → Unbreakable i → ⊥
 no_chance i a b = let e : true ≡ false = sym a ∙ b in cc
 
-no_both : (i : Item) → Blank i → Solid i → ⊥
+pub no_both : (i : Item) → Blank i → Solid i → ⊥
 no_both i a b = let e : true ≡ false = sym a ∙ b in cc
 
 -- a piece doesn't begin before another one that stands behind the same place
@@ -123,7 +123,7 @@ unlike : (i j : Item) → i ≡ j → is_break i ≡ true → is_break j ≡ fal
 unlike i j e t f = let no : true ≡ false = sym t ∙ ap is_break e ∙ f in cc
 
 -- a list without a cut has none in it
-none_inside : (segment : List Item) (cut : Item) (rest : List Item) → is_break cut ≡ true
+pub none_inside : (segment : List Item) (cut : Item) (rest : List Item) → is_break cut ≡ true
     → All Whole (segment ++ cut ∷ rest) → ⊥
 none_inside [] cut rest is h = unlike cut cut refl is (All-head Whole cut rest h)
 none_inside (x ∷ xs) cut rest is h = none_inside xs cut rest is (All-tail Whole x (xs ++ cut ∷ rest) h)

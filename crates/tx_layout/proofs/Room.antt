@@ -54,7 +54,7 @@ joined items a b c ab bc =
     ap₂ (λ x y. cells_across x + cells_across y) (sym first) (sym last) ∙ sum_by-take-drop item_cells whole (b - a)
 
 -- pieces side by side take the cells of the items from the first to the last
-run_cells : (least : ℕ) (items : List Item) (ss : List Span) (i n : ℕ) → SpansFrom least items 0 ss → i + n < length ss
+pub run_cells : (least : ℕ) (items : List Item) (ss : List Span) (i n : ℕ) → SpansFrom least items 0 ss → i + n < length ss
     → line_cells (map (piece_of items) ss) i (i + n + 1)
     ≡ cells_across (slice_range items (get_or ss i no_span).from (get_or ss (i + n) no_span).to)
 run_cells least items ss i zero h lt =

@@ -6,3 +6,4 @@ pub mod Shapes
 pub mod Rows
 pub mod Paging
 pub mod Told
+pub mod OneLine

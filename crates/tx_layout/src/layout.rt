@@ -1,5 +1,5 @@
 // The lines of a paragraph.
-ghost use Rattle.std.specs.Prelude.{◌≡◌, ◌≢◌, ℕ, ◌≤◌, ◌<◌, ◌+◌, ◌^◌, ◌++◌, ◌∷◌, Bool, List, map, length, All, IfOk, OnOk};
+ghost use Rattle.std.specs.Prelude.{◌≡◌, ◌≢◌, ℕ, ◌≤◌, ◌<◌, ◌+◌, ◌^◌, ◌++◌, ◌∷◌, [], Bool, List, map, length, All, IfOk, OnOk};
 ghost use Rattle.std.specs.Prelude.{IsTrue, Some, filter, slice_get, slice_range};
 ghost use Rattle.std.specs.List.{flat_map};
 ghost use Rattle.tx_items.specs.declared.drawing.Item.{Item};
@@ -15,6 +15,7 @@ ghost use Rattle.tx_layout.specs.Spread.{spaces_among, gap_of, spread_by, spread
 ghost use Rattle.tx_items.specs.Cells.{cells_across};
 ghost use Rattle.tx_layout.specs.Words.{capped_item};
 ghost use Rattle.tx_layout.specs.Shapes.{items_shown, IsShape, is_ink, is_ink_cluster};
+ghost use Rattle.tx_layout.specs.OneLine.{IsOneLine, one_line};
 ghost use Rattle.tx_layout.specs.Rows.{IsWithin, line_at};
 
 use crate::measures::line_frame;
@@ -310,4 +311,11 @@ pub fn spread_full()
 pub fn within_page()
     ensures { (p : Paragraph) (width : ℕ) (lines : List Line) → IsShape p width lines →
         All (λ line. line.indent + cells_across line.items ≤ width) lines }
+{}
+
+/// A law: a paragraph that nothing cuts, that has no space at its ends and takes at most the least width of its lines,
+/// stands in one line, with all its items, at the indent of its side.
+pub fn one_line_law()
+    ensures { (p : Paragraph) (width : ℕ) (lines : List Line) → IsShape p width lines → IsOneLine p width →
+        lines ≡ one_line p width ∷ [] }
 {}

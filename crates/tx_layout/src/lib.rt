@@ -16,7 +16,9 @@ mod pieces;
 mod segments;
 mod shapes;
 
-pub use layout::{Line, LineItems, items_kept, lines, one_shape, spread_full, within_page};
+pub use layout::{
+    Line, LineItems, items_kept, lines, one_line_law, one_shape, spread_full, within_page,
+};
 pub use measures::{Frame, Side, line_frame};
 pub use paging::{Paginator, lines_kept, one_paging, pages};
 pub use pieces::Span;

@@ -1,0 +1,4 @@
+pub mod Widening
+pub mod Padding
+pub mod Gathering
+pub mod Coloring

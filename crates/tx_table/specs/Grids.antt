@@ -1,8 +1,8 @@
 -- The grid of a `tabular`: its cells row by row, and the side of each.
 use Rattle.std.specs.Prelude.{ℕ, max, List, [], ◌∷◌, map, length, Option, Some, None, option_and_then}
 use Rattle.std.specs.Prelude.{if◌then◌else◌, codes}
-use Rattle.std.specs.Option.{option_map}
 use Rattle.std.specs.Str.{bytes_eq}
+use Rattle.std.specs.Option.{option_map}
 use Rattle.tx_origin.specs.Values.{WideValue, text, made, each_of}
 use Rattle.tx_table.specs.declared.grids.Grid.{Grid}
 use Rattle.tx_table.specs.Settings.{parts_if, settings_in, sides_of}
@@ -24,9 +24,13 @@ one_of [] = None
 one_of (v ∷ []) = Some v
 one_of (v ∷ (w ∷ ws)) = None
 
+-- the one part of a node with this label
+abbrev pub only_part : List ℕ → WideValue → Option WideValue
+only_part label v = option_and_then one_of (parts_if label v)
+
 -- what stands in a `cell` with one child
 abbrev pub cell_value : WideValue → Option WideValue
-cell_value v = option_and_then one_of (parts_if (codes "cell") v)
+cell_value v = only_part (codes "cell") v
 
 -- the parts of a node with this label that has one or more
 abbrev pub some_parts : List ℕ → WideValue → Option (List WideValue)
@@ -75,4 +79,4 @@ format_grid (made label vs at) =
 
 -- the grid of a `tabular`, or None where the value isn't one of the asked form
 abbrev pub grid_of : WideValue → Option Grid
-grid_of v = option_and_then format_grid (option_and_then one_of (parts_if (codes "tabular") v))
+grid_of v = option_and_then format_grid (only_part (codes "tabular") v)

@@ -1,3 +1,4 @@
 pub mod Grids
 pub mod Settings
 pub mod Columns
+pub mod Painting

@@ -1,11 +1,11 @@
 -- The sides of the cells of a table, as the `cwith`s of its `tformat` set them.
-use Rattle.std.specs.Prelude.{ℕ, zero, suc, ◌-◌, nat_le, nat_lt, Bool, true, false, ◌&&◌}
+use Rattle.std.specs.Prelude.{ℕ, zero, suc, ◌-◌, nat_le, nat_lt, Bool, false, ◌&&◌}
 use Rattle.std.specs.Prelude.{List, [], ◌∷◌, map, length, Option, Some, None, option_and_then, if◌then◌else◌, codes}
 use Rattle.std.specs.Prelude.{ℤ, pos, negsuc}
 use Rattle.std.specs.List.{fold, filter_map, enumerate_from, range_with_len}
-use Rattle.std.specs.Option.{option_map, option_zip}
+use Rattle.std.specs.Option.{option_map, option_map_or, option_zip}
 use Rattle.std.specs.Str.{bytes_eq}
-use Rattle.tx_origin.specs.Values.{WideValue, text, made, each_of, value_text}
+use Rattle.tx_origin.specs.Values.{WideValue, value_parts, value_text, value_label}
 use Rattle.tx_prim.specs.Numbers.{integer_of}
 use Rattle.tx_table.specs.declared.settings.Side.{Side}
 use Rattle.tx_table.specs.declared.settings.Side.TheVariants.{Left, Center, Right}
@@ -13,19 +13,17 @@ use Rattle.tx_table.specs.declared.settings.Setting.{Setting}
 
 -- the parts of a node with this label
 abbrev pub parts_if : List ℕ → WideValue → Option (List WideValue)
-parts_if label (text words at) = None
-parts_if label (made l vs at) = if bytes_eq l label then Some (each_of vs) else None
+parts_if label v = option_and_then (λ own. if bytes_eq own label then Some (value_parts v) else None) (value_label v)
 
 -- a number from 1, or from -1 counted from the end, of n, counted from 0; None where it is none of these
-abbrev pub place_of : ℕ → Option ℤ → Option ℕ
-place_of n (Some (pos zero)) = None
-place_of n (Some (pos (suc k))) = if nat_lt k n then Some k else None
-place_of n (Some (negsuc k)) = if nat_lt k n then Some (n - 1 - k) else None
-place_of n None = None
+abbrev pub place_of : ℕ → ℤ → Option ℕ
+place_of n (pos zero) = None
+place_of n (pos (suc k)) = if nat_lt k n then Some k else None
+place_of n (negsuc k) = if nat_lt k n then Some (n - 1 - k) else None
 
--- the number that a text writes
-abbrev pub number_in : WideValue → Option ℤ
-number_in v = option_and_then integer_of (value_text v)
+-- the place that a text writes
+abbrev pub place_in : ℕ → WideValue → Option ℕ
+place_in n v = option_and_then (place_of n) (option_and_then integer_of (value_text v))
 
 -- a first and a last place, in this order
 abbrev pub ordered : ℕ × ℕ → Option (ℕ × ℕ)
@@ -33,7 +31,7 @@ ordered p = if nat_le p.0 p.1 then Some p else None
 
 -- from which to which place of n two texts lead
 abbrev pub span_of : ℕ → WideValue → WideValue → Option (ℕ × ℕ)
-span_of n a b = option_and_then ordered (option_zip (place_of n (number_in a)) (place_of n (number_in b)))
+span_of n a b = option_and_then ordered (option_zip (place_in n a) (place_in n b))
 
 abbrev pub side_named : List ℕ → Option Side
 side_named name =
@@ -46,8 +44,7 @@ abbrev pub side_in : WideValue → Option Side
 side_in v = option_and_then side_named (value_text v)
 
 abbrev pub is_text : List ℕ → WideValue → Bool
-is_text words (text bytes at) = bytes_eq bytes words
-is_text words (made label vs at) = false
+is_text words v = option_map_or (λ bytes. bytes_eq bytes words) (value_text v) false
 
 abbrev pub setting_with : Side → (ℕ × ℕ) × (ℕ × ℕ) → Setting
 setting_with side spans =

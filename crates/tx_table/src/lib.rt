@@ -4,10 +4,12 @@
 //! not known here.
 #![tactic(auto)]
 
+mod cells;
 mod grids;
 mod plans;
 mod rows;
 mod settings;
+mod sides;
 
 pub use grids::{Grid, grid_of};
 pub use plans::{Plan, plan_of};

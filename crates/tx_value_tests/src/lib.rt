@@ -1,5 +1,5 @@
-//! Tests of values, as far as no row of `tx_rows` shows them: environments, origins and places, and clusters of the
-//! longest texts; and of the helper of tables, on which tests of other crates rest.
+//! Tests of values, as far as no row of `tx_rows` shows them: environments, origins and places, clusters of the
+//! longest texts, sides and columns of tables; and of the helper of tables, on which tests of other crates rest.
 #![tactic(auto)]
 
 #[cfg(test)]
@@ -10,3 +10,5 @@ mod environments;
 mod origins;
 #[cfg(test)]
 mod rows;
+#[cfg(test)]
+mod tables;

@@ -14,3 +14,4 @@ mod Behind
 pub mod PathUnits
 mod Located
 mod Placing
+mod TableRows

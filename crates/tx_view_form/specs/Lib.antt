@@ -6,3 +6,4 @@ pub mod Cells
 pub mod Positions
 pub mod Stops
 pub mod Weights
+pub mod TableCells

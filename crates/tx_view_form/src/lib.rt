@@ -5,8 +5,10 @@
 #![tactic(auto)]
 
 mod laws;
+mod tables;
 
 pub use laws::{limit_laws, one_view, place_law, short_law, weight_laws};
+pub use tables::{cell_law, table_place_law};
 
 /// How many steps the evaluation of one unit may take.
 pub const MOST_UNIT_STEPS: u64 = 1_000_000;
