@@ -1,7 +1,7 @@
 mod Walks
 mod Runs
 mod Flatness
-mod Below
+pub mod Below
 mod FlatLoops
 mod RowsShown
 mod Columns

@@ -1,5 +1,5 @@
 -- The sides of a table are the same where its value stands deeper.
-use Rattle.std.proofs.Common.{◌≡◌, ℕ, suc, max, Bool, true, false, List, [], ◌∷◌, map, length, Option, Some, None}
+use Rattle.std.proofs.Common.{◌≡◌, ℕ, ◌+◌, max, Bool, true, false, List, [], ◌∷◌, map, length, Option, Some, None}
 use Rattle.std.proofs.Common.{refl, ap, ap₂, sym, ◌∙◌}
 use Rattle.std.proofs.lemmas.List.{length-map}
 use Rattle.std.specs.Prelude.{if◌then◌else◌, option_and_then, codes}
@@ -10,7 +10,7 @@ use Rattle.tx_origin.specs.Values.{WideValue, WideValues, text, made, none, also
 use Rattle.tx_origin.specs.Under.{value_under, values_under}
 use Rattle.tx_table.specs.declared.grids.Grid.{Grid}
 use Rattle.tx_table.specs.declared.settings.Side.{Side}
-use Rattle.tx_table.specs.Settings.{parts_if, number_in, span_of, side_in, side_named, is_text, setting_by, setting_from}
+use Rattle.tx_table.specs.Settings.{parts_if, span_of, side_in, side_named, is_text, setting_by, setting_from}
 use Rattle.tx_table.specs.Settings.{setting_of, row_sides, sides_of, settings_in}
 use Rattle.tx_table.specs.Grids.{all_some, some_of, one_of, cell_value, some_parts, row_cells, table_rows}
 use Rattle.tx_table.specs.Grids.{column_count, before_last, last_of, grid_with, table_grid, format_grid, grid_of}
@@ -30,7 +30,7 @@ filtered (Some x) xs = x ∷ xs
 
 filter_first : {X : Type 0} (f : WideValue → Option X) (v : WideValue) (vs : List WideValue)
     → filter_map f (v ∷ vs) ≡ filtered (f v) (filter_map f vs)
-filter_first f v vs = pick (f v) refl
+filter_first {X = X} f v vs = pick (f v) refl
   where
     pick : (o : Option X) → f v ≡ o → filter_map f (v ∷ vs) ≡ filtered o (filter_map f vs)
     pick None e = rw e refl
@@ -68,7 +68,7 @@ module _ (base : List ℕ) where
   all_mapped : {X : Type 0} (g : X → X) (h : WideValue → Option X) → ((v : WideValue) → h (Under v) ≡ option_map g (h v))
       → (vs : List WideValue) → all_some (map h (map Under vs)) ≡ option_map (map g) (all_some (map h vs))
   all_mapped g h k [] = refl
-  all_mapped g h k (v ∷ vs) =
+  all_mapped {X = X} g h k (v ∷ vs) =
       all_some_is (h (Under v)) (map h (map Under vs))
       ∙ ap (λ o. all_some_of o (all_some (map h (map Under vs)))) (k v)
       ∙ pick (h v) (all_some (map h (map Under vs))) (all_some (map h vs)) (all_mapped g h k vs)
@@ -111,10 +111,6 @@ module _ (base : List ℕ) where
       (some_parts (codes "table") (Under v)) (all_mapped (map Under) row_cells row_under) (some_under (codes "table") v)
 
   -- ---- sides
-
-  number_under : (v : WideValue) → number_in (Under v) ≡ number_in v
-  number_under (text words at) = refl
-  number_under (made label vs at) = refl
 
   side_under : (v : WideValue) → side_in (Under v) ≡ side_in v
   side_under (text words at) = refl

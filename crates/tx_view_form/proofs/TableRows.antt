@@ -123,7 +123,7 @@ cell_whole : (s : Side) (n : ℕ) (x : List Item) → All Whole x → All Whole 
 cell_whole s n x h =
     All-cons Whole (Gap (left_pad s (n - cells_across x))) (x ++ Gap (right_pad s (n - cells_across x)) ∷ []) refl
     (All-append Whole x (Gap (right_pad s (n - cells_across x)) ∷ []) h
-      (gap_whole (right_pad s (n - cells_across x))))
+    (gap_whole (right_pad s (n - cells_across x))))
 
 before_whole : (j : ℕ) → All Whole (gap_before j)
 before_whole zero = All-nil Whole
@@ -141,7 +141,7 @@ row_whole j (n ∷ ns) [] (x ∷ xs) h w = absurd h
 row_whole j (n ∷ ns) (s ∷ ss) (x ∷ xs) h w =
     All-append Whole (gap_before j ++ cell_items s n x) (row_from (j + 1) ns ss xs)
     (All-append Whole (gap_before j) (cell_items s n x) (before_whole j)
-      (cell_whole s n x (All-head (All Whole) x xs w)))
+    (cell_whole s n x (All-head (All Whole) x xs w)))
     (row_whole (j + 1) ns ss xs h.1 (All-tail (All Whole) x xs w))
 
 abbrev TakesColumns : Type 0
@@ -209,6 +209,6 @@ place_covers line item c path above below m marked e =
     let found : option_and_then mark_of (item_at line c) ≡ Some m = ap (λ o. option_and_then mark_of o) e ∙ marked in
     ap
     (λ o.
-      place_by o path (marks_of (items_on above ++ take (item_number line c) line.items))
-      (marks_of (drop (item_number line c) line.items ++ items_on below)))
+    place_by o path (marks_of (items_on above ++ take (item_number line c) line.items))
+    (marks_of (drop (item_number line c) line.items ++ items_on below)))
     found
