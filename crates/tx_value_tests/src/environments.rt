@@ -162,8 +162,9 @@ fn first_wrong_overlay(alloc: Global) -> Option<usize> {
     None
 }
 
+// Names that all have one hash by the hasher that `indexmap` has of itself, whose key is fixed.
 fn numbered(alloc: Global, number: u32) -> Option<Text> {
-    let word = format!(in alloc; "name-{number}").ok()?;
+    let word = format!(in alloc; "n00000000002786800P7yDtM{number:08}abcdefghijklmnop").ok()?;
     name_of(alloc, word.as_bytes())
 }
 
@@ -227,4 +228,13 @@ fn a_thousand_names(rt: HostRuntime) {
     let mut env = Env::new(rt.alloc());
     let kept = keep_names(rt.alloc(), &mut env);
     assert!(rt; kept == Some(true));
+}
+
+// It takes a fraction of a second, and minutes where names are hashed by a fixed key.
+#[test]
+fn names_chosen_to_collide(rt: HostRuntime) {
+    let mut env = Env::new(rt.alloc());
+    let set = set_names(rt.alloc(), &mut env, 65535, 0);
+    assert!(rt; set == Some(()));
+    assert!(rt; have_names(rt.alloc(), &env, 65535, 0) == Some(true));
 }
