@@ -1,5 +1,5 @@
 // Why words are faulty, in words for people.
-ghost use Rattle.std.specs.Prelude.{◌≡◌, map, None, is_some, true, IfOk};
+ghost use Rattle.std.specs.Prelude.{◌≡◌, map, None, IfOk};
 ghost use Rattle.std.specs.String.{string_bytes};
 ghost use Rattle.tx_words.specs.Words.{AreFaulty};
 
@@ -122,12 +122,12 @@ fn explained(alloc: Global, words: &[String]) -> Result<String, Memory> {
 /// Why the words ask for nothing, as a text for people without a line's end, or None where they ask for something. What
 /// `clap` refuses is said in its words. Words that ask for help are told the commands of a script.
 pub fn faulty_because(alloc: Global, words: &[String]) -> Result<Option<String>, Memory>
-    ensures some { IfOk result (λ reason. is_some reason ≡ true → AreFaulty (map string_bytes words.now)) }
     ensures none { IfOk result (λ reason. reason ≡ None → AreFaulty (map string_bytes words.now) → ⊥) }
 {
     match read_words(alloc, words) {
-        Ok(_) => Ok(None),
-        Err(WordsFault::Faulty) => Ok(Some(explained(alloc, words)?)),
-        Err(WordsFault::Memory) => Err(Memory),
+        Ok(_) => return Ok(None),
+        Err(WordsFault::Memory) => return Err(Memory),
+        Err(WordsFault::Faulty) => {}
     }
+    Ok(Some(explained(alloc, words)?))
 }
