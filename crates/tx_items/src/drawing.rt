@@ -59,7 +59,7 @@ pub enum Item {
     Space(Drawn),
     /// A cluster that shows as a zero-width space (U+200B) alone. It takes no cell, and a line may end after it.
     Chance(Drawn),
-    /// So many free cells, at most 500, which are part of a word.
+    /// So many free cells, which are part of a word.
     Gap(u32),
     /// The line ends here.
     Break,
