@@ -1,14 +1,13 @@
 -- A paragraph whose items have room side by side is in one line.
-use Rattle.std.proofs.Common.{◌≡◌, ℕ, zero, suc, ◌+◌, ◌-◌, ◌<◌, ◌≤◌, min, List, [], ◌∷◌, map, length, take, drop}
-use Rattle.std.proofs.Common.{get_or, refl, sym, ap, ap₂, ◌∙◌, subst, arith, Bool, true, false, inl, inr, Some}
-use Rattle.std.specs.Prelude.{slice_range, slice_get, All}
+use Rattle.std.proofs.Common.{◌≡◌, ℕ, suc, ◌+◌, ◌-◌, ◌<◌, ◌≤◌, min, List, [], ◌∷◌, map, length}
+use Rattle.std.proofs.Common.{get_or, refl, ap, ap₂, ◌∙◌, subst, arith, Bool, true, false, inl, inr}
+use Rattle.std.specs.Prelude.{slice_range, All}
 use Rattle.std.proofs.lemmas.Bool.{cases_lt}
 use Rattle.std.proofs.lemmas.List.{length-map, take_all}
 use Rattle.std.proofs.lemmas.List.Sums.{sum_by-cons, sum_by-take-le}
 use Rattle.tx_lines.specs.declared.cut.Cut.{Cut}
 use Rattle.tx_lines.specs.declared.first_fit.Piece.{Piece}
-use Rattle.tx_lines.specs.Cuts.{Partitions}
-use Rattle.tx_lines.specs.FirstFit.{line_cells, width_of, IsFirstFit}
+use Rattle.tx_lines.specs.FirstFit.{line_cells, IsFirstFit}
 use Rattle.tx_lines.proofs.Places.{forward}
 use Rattle.tx_items.specs.declared.drawing.Item.{Item}
 use Rattle.tx_items.specs.declared.drawing.Item.TheVariants.{Glyph, Space, Chance, Gap, Break, PageEnd, Down}
@@ -21,7 +20,7 @@ use Rattle.tx_layout.specs.declared.pieces.Span.{Span}
 use Rattle.tx_layout.specs.declared.layout.Line.{Line}
 use Rattle.tx_layout.specs.Frames.{line_frame, least_width}
 use Rattle.tx_layout.specs.Words.{capped_item, Blank, Solid, SpansFrom}
-use Rattle.tx_layout.specs.Segments.{shift, put_in, piece_of, width_at, indent_at, no_span, line_with, line_of, lines_of}
+use Rattle.tx_layout.specs.Segments.{shift, put_in, piece_of, width_at, indent_at, no_span, line_with, lines_of}
 use Rattle.tx_layout.specs.Segments.{HasWords}
 use Rattle.tx_layout.specs.Spread.{spread}
 use Rattle.tx_layout.specs.Shapes.{Whole, or_empty, items_shown, IsShape, HasLines, last_segment, then_cut}

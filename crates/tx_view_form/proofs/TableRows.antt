@@ -1,6 +1,6 @@
 -- The rows of tables as lines, and which item covers a column.
 use Rattle.std.proofs.Common.{◌≡◌, ℕ, zero, suc, ◌+◌, ◌-◌, ◌<◌, ◌≤◌, List, [], ◌∷◌, ◌++◌, length, get_or, Some, None, cond}
-use Rattle.std.proofs.Common.{refl, sym, ap, ◌∙◌, subst, arith, Bool, true, false, append_assoc, take, drop}
+use Rattle.std.proofs.Common.{refl, sym, ap, ◌∙◌, subst, arith, true, false, append_assoc, take, drop}
 use Rattle.std.specs.Prelude.{All, slice_get, nat_le, nat_lt, option_and_then}
 use Rattle.std.proofs.lemmas.List.{append-nil, length-append}
 use Rattle.std.proofs.lemmas.List.Sums.{sum_by-cons, sum_by-append}
@@ -14,7 +14,6 @@ use Rattle.tx_items.specs.Cells.{item_cells, cells_across}
 use Rattle.tx_items.specs.Tables.{missing_gap, cell_items, gap_before, row_from, row_items}
 use Rattle.tx_items.specs.RowPlaces.{FitsRow, ColumnStands}
 use Rattle.tx_layout.specs.declared.layout.Line.{Line}
-use Rattle.tx_layout.specs.Frames.{line_frame, least_width}
 use Rattle.tx_layout.specs.Words.{Solid}
 use Rattle.tx_layout.specs.Shapes.{Whole}
 use Rattle.tx_layout.specs.OneLine.{IsOneLine, one_line}
