@@ -10,6 +10,8 @@ mod edits;
 #[cfg(test)]
 mod generated;
 #[cfg(test)]
+mod kept;
+#[cfg(test)]
 mod paths;
 #[cfg(test)]
 mod stops;
