@@ -4,3 +4,4 @@ pub mod Carried
 pub mod Moving
 pub mod Ordering
 pub mod Found
+pub mod Drained

@@ -1,10 +1,8 @@
 use Rattle.std.proofs.Common.{rules, ◌≡◌, ◌∙◌, sym, ap, length, subst}
 use Rattle.std.specs.List.{splice}
 use Rattle.std.specs.Vec.Iter.{into_iter_len}
-use Rattle.std.proofs.lemmas.List.{map-id}
-use Rattle.std.proofs.lemmas.Iterator.{items_from_drains}
-use Rattle.std.proofs.lemmas.Iterator.Adapters.{YieldsList-from_vec}
 use Rattle.tx_kept.specs.Entries.{IsInOrder}
+use Rattle.tx_kept.proofs.Drained.{drained}
 use Rattle.tx_kept.proofs.path_map.PathMap.replace.Goals as goal
 
 pub returns-clause-replaced : goal.returns-clause-replaced
@@ -14,7 +12,7 @@ returns-clause-replaced g c =
     let same : c.self.inside.entries.items ≡ c.args.self.now = search rules in
     f.4
     ∙ ap (splice c.self.inside.entries.items c.args.start c.args.end)
-    (sym (map-id f.1) ∙ items_from_drains f.1 f.3 (YieldsList-from_vec c.args.entries.items f.2.0 long))
+    (drained f.0 f.1 c.args.entries.items f.3 f.2.0 long)
     ∙ ap (λ xs. splice xs c.args.start c.args.end c.args.entries.items) same
 
 pub invariant_of-self-2 : goal.invariant_of-self-2
@@ -24,5 +22,5 @@ invariant_of-self-2 g c =
     let same : c.self.inside.entries.items ≡ c.args.self.now = search rules in
     subst IsInOrder (sym (f.4
     ∙ ap (splice c.self.inside.entries.items c.args.start c.args.end)
-    (sym (map-id f.1) ∙ items_from_drains f.1 f.3 (YieldsList-from_vec c.args.entries.items f.2.0 long))
+    (drained f.0 f.1 c.args.entries.items f.3 f.2.0 long)
     ∙ ap (λ xs. splice xs c.args.start c.args.end c.args.entries.items) same)) c.requires.order
