@@ -1,0 +1,4 @@
+pub mod Entries
+pub mod Carrying
+pub mod Moves
+pub mod Finding
