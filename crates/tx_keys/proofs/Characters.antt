@@ -1,11 +1,11 @@
 -- The keys of a text in UTF-8 are its characters.
 use Rattle.std.proofs.Common.{◌≡◌, ◌≢◌, ℕ, ◌+◌, ◌-◌, ◌*◌, ◌/◌, ◌%◌, ◌<◌, ◌≤◌, Bool, true, false, List, [], ◌∷◌, ◌++◌}
-use Rattle.std.proofs.Common.{Option, Some, None, append_assoc, map, inl, inr, refl, sym, ap, ◌∙◌, absurd, arith, mod-lt}
-use Rattle.std.specs.Prelude.{encode_utf8, encode_utf8_all, nat_le, ◌&&◌, if◌then◌else◌}
+use Rattle.std.proofs.Common.{Option, Some, None, append_assoc, map, inl, inr, refl, sym, ap, ◌∙◌, arith, mod-lt}
+use Rattle.std.specs.Prelude.{encode_utf8_all, nat_le, ◌&&◌, if◌then◌else◌}
 use Rattle.std.specs.List.{AllByRecursion}
 use Rattle.std.proofs.lemmas.Bool.{le-leb, lt-leb, lt-ltb, le-ltb, ne_eqb, cases_lt}
 use Rattle.std.proofs.Math.Nat.{div-add-mod}
-use lib.Utf8.{scalar, scalar_cases}
+use lib.Utf8.{scalar, scalar_cases, encode}
 use Rattle.tx_keys.specs.declared.sequences.Key.{Key}
 use Rattle.tx_keys.specs.declared.sequences.Key.TheVariants.{Char}
 use Rattle.tx_keys.specs.declared.sequences.Begun.{Begun}
@@ -162,8 +162,8 @@ four c ok low =
 one : (c : ℕ) → IsTypable c → c < 128 → IsCharOf (c ∷ []) c
 one c ok low = rw (ascii_first c ok.1 (omega (arith, ok.2, low))) refl
 
-char_keys : (c : ℕ) → IsTypable c → IsCharOf (encode_utf8 c) c
-unfolding encode_utf8
+char_keys : (c : ℕ) → IsTypable c → IsCharOf (encode c) c
+unfolding encode
 char_keys c ok =
     elim (cases_lt c 128) [
       | inl a ↦ rw (lt-ltb c 128 a) (one c ok a)
@@ -179,7 +179,7 @@ char_keys c ok =
 texts : (cs : List ℕ) → AllByRecursion IsTypable cs → bytes_keys Nothing (encode_utf8_all cs) ≡ (Nothing, map Char cs)
 texts [] all = refl
 texts (c ∷ cs) all =
-    rw (bytes_both (encode_utf8 c) (encode_utf8_all cs) Nothing) (rw (char_keys c all.0) (rw (texts cs all.1) refl))
+    rw (bytes_both (encode c) (encode_utf8_all cs) Nothing) (rw (char_keys c all.0) (rw (texts cs all.1) refl))
 
 pub text_keys : (cs : List ℕ) → AllByRecursion IsTypable cs → read_keys Nothing (encode_utf8_all cs) ≡ (Nothing, map Char cs)
 text_keys cs all = rw (texts cs all) refl

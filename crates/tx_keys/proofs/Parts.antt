@@ -1,5 +1,5 @@
 -- Keys of bytes that come in two parts.
-use Rattle.std.proofs.Common.{◌≡◌, ◌≢◌, ℕ, List, [], ◌∷◌, ◌++◌, append_assoc, refl, sym, ap, absurd}
+use Rattle.std.proofs.Common.{◌≡◌, ◌≢◌, ℕ, List, [], ◌∷◌, ◌++◌, append_assoc, refl, sym, ap}
 use Rattle.tx_keys.specs.declared.sequences.Key.{Key}
 use Rattle.tx_keys.specs.declared.sequences.Key.TheVariants.{Escape}
 use Rattle.tx_keys.specs.declared.sequences.Begun.{Begun}
@@ -65,12 +65,12 @@ plainly begun xs ys other =
 
 -- Where a read ends is the same, unless it ends after an escape.
 pub cut_anywhere : (begun : Begun) (xs ys : List ℕ) → begun ≢ LoneEscape → Cut begun xs ys
-cut_anywhere LoneEscape xs ys no other = absurd (no refl)
-cut_anywhere AnEscape xs ys no other = plainly AnEscape xs ys other
-cut_anywhere Nothing xs ys no other = plainly Nothing xs ys other
-cut_anywhere SingleShift xs ys no other = plainly SingleShift xs ys other
-cut_anywhere Bracket xs ys no other = plainly Bracket xs ys other
-cut_anywhere (Numbers m a b c) xs ys no other = plainly (Numbers m a b c) xs ys other
-cut_anywhere Foreign xs ys no other = plainly Foreign xs ys other
-cut_anywhere (Skipping n) xs ys no other = plainly (Skipping n) xs ys other
-cut_anywhere (Character n a b) xs ys no other = plainly (Character n a b) xs ys other
+cut_anywhere LoneEscape xs ys apart other = absurd (apart refl)
+cut_anywhere AnEscape xs ys apart other = plainly AnEscape xs ys other
+cut_anywhere Nothing xs ys apart other = plainly Nothing xs ys other
+cut_anywhere SingleShift xs ys apart other = plainly SingleShift xs ys other
+cut_anywhere Bracket xs ys apart other = plainly Bracket xs ys other
+cut_anywhere (Numbers m a b c) xs ys apart other = plainly (Numbers m a b c) xs ys other
+cut_anywhere Foreign xs ys apart other = plainly Foreign xs ys other
+cut_anywhere (Skipping n) xs ys apart other = plainly (Skipping n) xs ys other
+cut_anywhere (Character n a b) xs ys apart other = plainly (Character n a b) xs ys other

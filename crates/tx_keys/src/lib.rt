@@ -4,6 +4,8 @@
 
 mod reading;
 mod sequences;
+mod typing;
 
 pub use reading::{key_laws, read_keys};
 pub use sequences::{Begun, Key};
+pub use typing::push_typed;
