@@ -134,7 +134,8 @@ three c ok low high =
 four : (c : ℕ) → scalar c ≡ true → 65536 ≤ c
     → IsCharOf ((240 + c / 262144) ∷ (128 + c / 4096 % 64) ∷ (128 + c / 64 % 64) ∷ (128 + c % 64) ∷ []) c
 four c ok low =
-    let high : c < 1114112 = elim (scalar_cases c ok) [ inl below ↦ absurd (omega (arith, below, low)) | inr h ↦ h.1 ] in
+    let high : c < 1114112
+    = elim (scalar_cases c ok) [ inl below ↦ absurd (omega (arith, below, low)) | inr h ↦ h.1 ] in
     let whole : 64 * (c / 64) + c % 64 ≡ c = div-add-mod c 64 in
     let small : c % 64 < 64 = mod-lt c (omega arith) in
     let upper : 64 * (c / 64 / 64) + c / 64 % 64 ≡ c / 64 = div-add-mod (c / 64) 64 in
@@ -181,5 +182,6 @@ texts [] all = refl
 texts (c ∷ cs) all =
     rw (bytes_both (encode c) (encode_utf8_all cs) Nothing) (rw (char_keys c all.0) (rw (texts cs all.1) refl))
 
-pub text_keys : (cs : List ℕ) → AllByRecursion IsTypable cs → read_keys Nothing (encode_utf8_all cs) ≡ (Nothing, map Char cs)
+pub text_keys : (cs : List ℕ) → AllByRecursion IsTypable cs
+    → read_keys Nothing (encode_utf8_all cs) ≡ (Nothing, map Char cs)
 text_keys cs all = rw (texts cs all) refl

@@ -22,7 +22,9 @@ right_digit : (n : ℕ) → n < 16 → is_right_digit n ≡ true
 right_digit n small = agree_below_at is_right_digit always 16 n refl small
 
 value_of : (n : ℕ) → n < 16 → digit_value (hex_digit n) ≡ n
-value_of n small = eqb-true (digit_value (hex_digit n)) n (and_parts (digit_value (hex_digit n) == n) (is_name_byte (hex_digit n)) (right_digit n small)).0
+value_of n small =
+    eqb-true (digit_value (hex_digit n)) n
+    (and_parts (digit_value (hex_digit n) == n) (is_name_byte (hex_digit n)) (right_digit n small)).0
 
 name_of : (n : ℕ) → n < 16 → is_name_byte (hex_digit n) ≡ true
 name_of n small = (and_parts (digit_value (hex_digit n) == n) (is_name_byte (hex_digit n)) (right_digit n small)).1
@@ -73,10 +75,19 @@ dropped (suc n) [] all = all
 dropped (suc n) (d ∷ ds) all = dropped n ds all.1
 
 six_names : (code : ℕ) → AreNameBytes (six_digits code)
-six_names code =
-    (name_of (code / 0x100000 % 16) (omega arith), (name_of (code / 0x10000 % 16) (omega arith),
-    (name_of (code / 0x1000 % 16) (omega arith), (name_of (code / 0x100 % 16) (omega arith),
-    (name_of (code / 0x10 % 16) (omega arith), (name_of (code % 16) (omega arith), tt))))))
+six_names code = (
+  name_of (code / 0x100000 % 16) (omega arith),
+  (
+    name_of (code / 0x10000 % 16) (omega arith),
+    (
+      name_of (code / 0x1000 % 16) (omega arith),
+      (
+        name_of (code / 0x100 % 16) (omega arith),
+        (name_of (code / 0x10 % 16) (omega arith), (name_of (code % 16) (omega arith), tt)),
+      ),
+    ),
+  ),
+)
 
 short : (n : ℕ) (ds : List ℕ) → length (drop n ds) ≤ length ds
 short zero ds = omega arith

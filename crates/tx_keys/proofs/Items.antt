@@ -1,6 +1,6 @@
 -- Bytes that show a code point, and the item that is typed.
-use Rattle.std.proofs.Common.{◌≡◌, ◌≢◌, ℕ, ◌+◌, ◌-◌, ◌<◌, ◌≤◌, Bool, true, false, not, ◌&&◌, ◌||◌, ◌==◌, cond}
-use Rattle.std.proofs.Common.{List, [], ◌∷◌, ◌++◌, length, Option, Some, None, inl, inr, refl, sym, ap, subst, ◌∙◌, arith}
+use Rattle.std.proofs.Common.{◌≡◌, ◌≢◌, ℕ, ◌<◌, Bool, true, false, not, ◌&&◌, ◌||◌, ◌==◌, cond}
+use Rattle.std.proofs.Common.{List, [], ◌∷◌, Option, Some, None, inl, inr, refl, sym, ap, subst, ◌∙◌, arith}
 use Rattle.std.specs.Prelude.{codes, nat_le}
 use Rattle.std.specs.List.{AllByRecursion, list_all}
 use Rattle.std.specs.Option.{is_some}
@@ -62,7 +62,8 @@ own_small b own = grind (arith, nat_tests)
 own_shows : (b : ℕ) → (b == 60 || b == 62) ≡ false → is_own b ≡ true → Shows b b
 own_shows b other own =
     let all : is_right_own b ≡ true = owns_are_right b (own_small b own) in
-    let both : ((byte_code b == b) && is_item_byte b) ≡ true = right (is_own b) ((byte_code b == b) && is_item_byte b) (b == 60 || b == 62) own other all in
+    let both : ((byte_code b == b) && is_item_byte b) ≡ true
+    = right (is_own b) ((byte_code b == b) && is_item_byte b) (b == 60 || b == 62) own other all in
     let two = and_parts (byte_code b == b) (is_item_byte b) both in
     (eqb-true (byte_code b) b two.0, two.1)
   where
@@ -72,16 +73,20 @@ own_shows b other own =
     right true y true is no_other all = absurd (true≢false no_other)
     right false y z is no_other all = absurd (false≢true is)
 
+-- the byte of another code point than that of < and >
+abbrev later_byte_of : ℕ → Option ℕ
+later_byte_of code = cond (is_own code) (Some code) (byte_among SHOWN_BYTES code)
+
 pub byte_shows : (code b : ℕ) → byte_of code ≡ Some b → Shows b code
 byte_shows code b found =
     elim (cases_Bool (code == 60 || code == 62)) [
-      | inl is ↦ absurd (false≢true (ap is_some (ap (λ t. cond t None (cond (is_own code) (Some code) (byte_among SHOWN_BYTES code))) (sym is) ∙ found)))
+      | inl is ↦ absurd (false≢true (ap is_some (ap (λ t. cond t None (later_byte_of code)) (sym is) ∙ found)))
       | inr other ↦
-          let later : cond (is_own code) (Some code) (byte_among SHOWN_BYTES code) ≡ Some b =
-          ap (λ t. cond t None (cond (is_own code) (Some code) (byte_among SHOWN_BYTES code))) (sym other) ∙ found in
+          let later : later_byte_of code ≡ Some b = ap (λ t. cond t None (later_byte_of code)) (sym other) ∙ found in
           elim (cases_Bool (is_own code)) [
             | inl own ↦
-                let here : Some code ≡ Some b = ap (λ t. cond t (Some code) (byte_among SHOWN_BYTES code)) (sym own) ∙ later in
+                let here : Some code ≡ Some b
+                = ap (λ t. cond t (Some code) (byte_among SHOWN_BYTES code)) (sym own) ∙ later in
                 subst (λ x. Shows x code) (ap (λ o. from_some o) here) (own_shows code other own)
             | inr not_own ↦
                 among_shows SHOWN_BYTES rows_are_right code b

@@ -3,8 +3,8 @@ use Rattle.std.proofs.Common.{◌≡◌, ◌≢◌, ℕ, List, [], ◌∷◌, �
 use Rattle.tx_keys.specs.declared.sequences.Key.{Key}
 use Rattle.tx_keys.specs.declared.sequences.Key.TheVariants.{Escape}
 use Rattle.tx_keys.specs.declared.sequences.Begun.{Begun}
-use Rattle.tx_keys.specs.declared.sequences.Begun.TheVariants.{Nothing, Escape as AnEscape, LoneEscape, SingleShift, Bracket}
-use Rattle.tx_keys.specs.declared.sequences.Begun.TheVariants.{Numbers, Foreign, Skipping, Character}
+use Rattle.tx_keys.specs.declared.sequences.Begun.TheVariants.{Nothing, Escape as AnEscape, LoneEscape, SingleShift}
+use Rattle.tx_keys.specs.declared.sequences.Begun.TheVariants.{Bracket, Numbers, Foreign, Skipping, Character}
 use Rattle.tx_keys.specs.Keys.{byte_keys, bytes_keys, ended_read, read_keys}
 use Rattle.tx_keys.specs.Encodings.{in_turn}
 

@@ -33,8 +33,7 @@ Spells n ds = n < 100000 → (bytes_keys Bracket ds ≡ (Numbers false 0 0 n, []
 
 one_digit : (n : ℕ) → n < 10 → Spells n ((48 + n) ∷ [])
 one_digit n small few =
-    let value : 0 * 10 + (48 + n - 48) ≡ n = omega arith in
-    (
+    let value : 0 * 10 + (48 + n - 48) ≡ n = omega arith in (
       rw (first_digit n small, digit false 0 0 0 n small (omega arith)) (rw (value) refl),
       λ m a b. rw (digit m a b 0 n small (omega arith)) (rw (value) refl),
     )
@@ -45,12 +44,11 @@ more_digits n ds long front few =
     let value : n / 10 * 10 + (48 + n % 10 - 48) ≡ n = omega (arith, last) in
     let small : n % 10 < 10 = mod-lt n (omega arith) in
     let fewer : n / 10 < 10000 = omega (arith, last, few) in
-    let before = front (omega (arith, fewer)) in
-    (
+    let before = front (omega (arith, fewer)) in (
       rw (bytes_both ds ((48 + n % 10) ∷ []) Bracket, before.0)
-      (rw (digit false 0 0 (n / 10) (n % 10) small fewer) (rw (value) refl)),
+          (rw (digit false 0 0 (n / 10) (n % 10) small fewer) (rw (value) refl)),
       λ m a b. rw (bytes_both ds ((48 + n % 10) ∷ []) (Numbers m a b 0), before.1 m a b)
-      (rw (digit m a b (n / 10) (n % 10) small fewer) (rw (value) refl)),
+          (rw (digit m a b (n / 10) (n % 10) small fewer) (rw (value) refl)),
     )
 
 number : (n : ℕ) → n < 100000 → Spells n (decimal n)

@@ -1,13 +1,14 @@
 -- The keys that the bytes of a terminal stand for, read by read.
-use Rattle.std.specs.Prelude.{ℕ, ◌+◌, ◌-◌, ◌*◌, ◌==◌, ◌&&◌, ◌||◌, nat_lt, nat_le, Bool, true, false, List, [], ◌∷◌, ◌++◌}
-use Rattle.std.specs.Prelude.{Option, Some, None, if◌then◌else◌}
+use Rattle.std.specs.Prelude.{ℕ, ◌+◌, ◌-◌, ◌*◌, ◌==◌, ◌&&◌, ◌||◌, nat_lt, nat_le, Bool, true, false, List, [], ◌∷◌}
+use Rattle.std.specs.Prelude.{◌++◌, Option, Some, None, if◌then◌else◌}
 use Rattle.tx_keys.specs.declared.sequences.Key.{Key}
-use Rattle.tx_keys.specs.declared.sequences.Key.TheVariants.{Char, Control, Enter, Backspace, Escape, Up, Down, Right, Left}
-use Rattle.tx_keys.specs.declared.sequences.Key.TheVariants.{Home, End, CtrlHome, CtrlEnd, PageUp, PageDown, Delete, F1}
-use Rattle.tx_keys.specs.declared.sequences.Key.TheVariants.{Click, Report, PasteBegins, PasteEnds}
+use Rattle.tx_keys.specs.declared.sequences.Key.TheVariants.{Char, Control, Enter, Backspace, Escape, Up, Down}
+use Rattle.tx_keys.specs.declared.sequences.Key.TheVariants.{Right, Left, Home, End, CtrlHome, CtrlEnd}
+use Rattle.tx_keys.specs.declared.sequences.Key.TheVariants.{PageUp, PageDown, Delete, F1, Click, Report}
+use Rattle.tx_keys.specs.declared.sequences.Key.TheVariants.{PasteBegins, PasteEnds}
 use Rattle.tx_keys.specs.declared.sequences.Begun.{Begun}
-use Rattle.tx_keys.specs.declared.sequences.Begun.TheVariants.{Nothing, Escape as AnEscape, LoneEscape, SingleShift, Bracket}
-use Rattle.tx_keys.specs.declared.sequences.Begun.TheVariants.{Numbers, Foreign, Skipping, Character}
+use Rattle.tx_keys.specs.declared.sequences.Begun.TheVariants.{Nothing, Escape as AnEscape, LoneEscape, SingleShift}
+use Rattle.tx_keys.specs.declared.sequences.Begun.TheVariants.{Bracket, Numbers, Foreign, Skipping, Character}
 
 -- ---- the key that a sequence ends with
 

@@ -1,6 +1,6 @@
 -- The item of a text for a typed character.
-use Rattle.std.specs.Prelude.{◌≡◌, ℕ, ◌+◌, ◌*◌, ◌/◌, ◌%◌, ◌<◌, Bool, true, ◌==◌, ◌||◌, nat_lt, List, [], ◌∷◌, ◌++◌, length}
-use Rattle.std.specs.Prelude.{drop, codes, Option, Some, None, if◌then◌else◌}
+use Rattle.std.specs.Prelude.{◌≡◌, ℕ, ◌+◌, ◌/◌, ◌%◌, ◌<◌, Bool, true, ◌==◌, ◌||◌, nat_lt, List, [], ◌∷◌}
+use Rattle.std.specs.Prelude.{length, drop, codes, Option, Some, None, if◌then◌else◌}
 use Rattle.std.specs.Int.{is_in_range}
 use Rattle.std.specs.List.{take_while}
 use Rattle.tx_tree.specs.Texts.{Item, byte, symbol, IsItem, is_item_byte}
@@ -8,8 +8,8 @@ use Rattle.tx_text.specs.Tables.{byte_code}
 use Rattle.tx_text.specs.Displays.{item_codes}
 use Rattle.tx_keys.specs.declared.typing.TheConstants.{SHOWN_BYTES}
 
--- The item that is typed for a code point: it shows that alone, and is a byte where a byte does. A no-break space is the
--- symbol at which no line ends.
+-- The item that is typed for a code point: it shows that alone, and is a byte where a byte does. A no-break space is
+-- the symbol at which no line ends.
 pub record IsTyped (code : ℕ) (item : Item) : Type 0 where
   pub is_item : IsItem item
   pub shows : item_codes item ≡ code ∷ []

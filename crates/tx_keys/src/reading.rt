@@ -1,5 +1,6 @@
 // The keys of a read.
-ghost use Rattle.std.specs.Prelude.{◌≡◌, ◌≢◌, ℕ, List, [], ◌∷◌, ◌++◌, take, length, map, IfOk, OnOk, OnErr, encode_utf8_all};
+ghost use Rattle.std.specs.Prelude.{◌≡◌, ◌≢◌, ℕ, List, [], ◌∷◌, ◌++◌, take, length, map, encode_utf8_all};
+ghost use Rattle.std.specs.Prelude.{IfOk, OnOk, OnErr};
 ghost use Rattle.std.specs.List.{AllByRecursion};
 ghost use Rattle.tx_keys.specs.Encodings.{IsKeyRow, IsPlace, IsTypable, click_bytes, in_turn, key_rows, report_bytes};
 ghost use Rattle.tx_keys.specs.Keys.{byte_keys, bytes_keys, listed, read_keys, whole_key};

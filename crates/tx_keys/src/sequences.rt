@@ -169,7 +169,10 @@ fn number_byte(
         }
         b';' => Some((Begun::Numbers(marked, second, last, 0), None)),
         32..=63 => Some((Begun::Foreign, None)),
-        64..=126 => Some((Begun::Nothing, sequence_key(marked, first, second, last, byte))),
+        64..=126 => Some((
+            Begun::Nothing,
+            sequence_key(marked, first, second, last, byte),
+        )),
         _ => None,
     }
 }

@@ -8,4 +8,5 @@ invariant-loop-byte l = record {
   begun : (bytes_keys l.now (drop l.byte-index l.bytes)).0 ≡ (bytes_keys l.fn.begun l.bytes).0;
   added : l.keys.items ++ (bytes_keys l.now (drop l.byte-index l.bytes)).1
       ≡ l.fn.keys.items ++ (bytes_keys l.fn.begun l.bytes).1;
-  grows : take (length l.fn.keys.items) l.keys.items ≡ l.fn.keys.items; }
+  grows : take (length l.fn.keys.items) l.keys.items ≡ l.fn.keys.items;
+}
