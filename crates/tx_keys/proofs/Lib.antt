@@ -1,0 +1,5 @@
+pub mod Parts
+pub mod Characters
+pub mod Places
+pub mod Hex
+pub mod Items
