@@ -11,7 +11,8 @@ use Rattle.tx_mod.specs.Changes.{changed}
 use Rattle.tx_mod.specs.Moves.{carried_path}
 use Rattle.tx_mod.specs.Followed.{CarriesSubtree, changed_by_all, carried_by_all}
 use Rattle.tx_kept.specs.Carrying.{trees_before}
-use Rattle.tx_kept.proofs.Applying.{First, first_of, all_after, path_after, trees_after, applies_one, value_of, has_value}
+use Rattle.tx_kept.proofs.Applying.{First, first_of, all_after, path_after}
+use Rattle.tx_kept.proofs.Applying.{trees_after, applies_one, value_of, has_value}
 
 -- Where i modifications are passed, the path leads in the tree that is there.
 pub record Along (ms : List Mod) (ts : List WideTree) (t : WideTree) (i : ℕ) (old now : List ℕ) : Type 0 where

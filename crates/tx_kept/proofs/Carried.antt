@@ -1,5 +1,6 @@
 -- What an edit leaves of entries in order is in order, and each value stays with its tree.
-use Rattle.std.proofs.Common.{◌≡◌, ℕ, zero, suc, ◌<◌, List, [], ◌∷◌, length, slice_index_or, refl, sym, ap, subst, ◌∙◌, arith}
+use Rattle.std.proofs.Common.{◌≡◌, ℕ, zero, suc, ◌<◌, List, [], ◌∷◌}
+use Rattle.std.proofs.Common.{length, slice_index_or, refl, sym, ap, subst, ◌∙◌, arith}
 use Rattle.std.specs.List.{cons_option, Contains}
 use Rattle.std.specs.Option.{IsSome}
 use Rattle.std.specs.Prelude.{Option, Some, None, Ok, option_and_then, option_map, filter_map}

@@ -1,5 +1,6 @@
 -- Which entries an edit moves, as it is known before any is moved.
-use Rattle.std.specs.Prelude.{◌≡◌, ◌⊎◌, ℕ, Bool, true, false, ◌+◌, ◌==◌, if◌then◌else◌, List, [], ◌∷◌, ◌++◌, reverse, Option, Some, None, option_map}
+use Rattle.std.specs.Prelude.{◌≡◌, ◌⊎◌, ℕ, Bool, true, false, ◌+◌, ◌==◌, if◌then◌else◌}
+use Rattle.std.specs.Prelude.{List, [], ◌∷◌, ◌++◌, reverse, Option, Some, None, option_map}
 use Rattle.std.specs.List.{cons_option}
 use Rattle.tx_kept.specs.declared.path_map.Entry.{Entry}
 use Rattle.tx_kept.specs.declared.carrying.Move.{Move}

@@ -1,5 +1,6 @@
 // Entries in order, found by their paths.
-ghost use Rattle.std.specs.Prelude.{◌≡◌, ℕ, ◌<◌, ◌≤◌, ◌↔◌, ◌⊎◌, ◌||◌, Some, IsTrue, MatchOption, is_some, length, slice_get};
+ghost use Rattle.std.specs.Prelude.{◌≡◌, ℕ, ◌<◌, ◌≤◌, ◌↔◌, ◌⊎◌};
+ghost use Rattle.std.specs.Prelude.{◌||◌, Some, IsTrue, MatchOption, is_some, length, slice_get};
 ghost use Rattle.std.specs.Option.{IsSome};
 ghost use Rattle.std.specs.Str.{bytes_eq};
 ghost use Rattle.tx_mod.specs.Moves.{rest_behind};

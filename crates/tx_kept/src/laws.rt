@@ -7,8 +7,8 @@ ghost use Rattle.tx_kept.specs.declared.path_map.Entry.{Entry};
 ghost use Rattle.tx_kept.specs.Carrying.{carry};
 ghost use Rattle.tx_kept.specs.Entries.{AllHold, AllLead, IsInOrder, IsOf};
 
-/// What an edit leaves of entries whose paths lead: each value is that of an entry before, and its path leads to the tree
-/// to which that one's led. Entries in order stay in order.
+/// A law: what an edit leaves of entries whose paths lead. Each value is that of an entry before, and its path leads to
+/// the tree to which that one's led. Entries in order are in order afterwards.
 pub fn carry_law<X: Drop>()
     ensures same { (ms : List Change) (t u : WideTree) (xs : List (Entry X)) →
         changed_by_all ms t ≡ Some u → AllLead t xs → AllHold (IsOf t xs) u (carry ms t xs) }

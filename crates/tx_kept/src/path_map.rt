@@ -30,8 +30,8 @@ pub struct Entry<X: Drop> {
     pub value: X,
 }
 
-/// Values at paths of the document, in the order of the document: a tree comes before those in it, and these come before
-/// the next tree. No two have one path.
+/// Values at paths of the document, in the order of the document: a tree comes before those in it, and these come
+/// before the next tree. No two have one path.
 ///
 /// Contracts see the list of the entries.
 #[derive(Drop)]
@@ -107,7 +107,7 @@ impl<X: Drop> PathMap<X> {
         mem::replace(&mut self.entries[number].value, value)
     }
 
-    /// Puts entries in the place of those from number `start` up to number `end`. For want of memory all is as before.
+    /// Puts entries in the place of those from number `start` up to number `end`. After `Memory` all is as before.
     pub fn replace(
         &mut self,
         start: usize,
@@ -124,9 +124,9 @@ impl<X: Drop> PathMap<X> {
         Ok(())
     }
 
-    /// Carries the entries through modifications of the document, which apply in turn to the tree `before`, to which all
-    /// paths lead. `trees` are those before each modification. An entry moves to where its path is carried, and one whose
-    /// tree doesn't stay goes. For want of memory all is as before.
+    /// Carries the entries through modifications of the document, which apply in turn to the tree `before`, to which
+    /// all paths lead. `trees` are those before each modification. An entry moves to where its path is carried, and one
+    /// whose tree doesn't survive goes. After `Memory` all is as before.
     pub fn carry_along(
         &mut self,
         alloc: Global,
