@@ -1,6 +1,6 @@
 //! Tests of calls below the session that no command shows: edits of several modifications, edits that are left out,
-//! stops, paths, bodies, buffers, generated documents, words with spaces, and trees that are evaluated by their parts.
-//! What commands show are rows of `tx_rows`.
+//! values at paths, stops, paths, bodies, buffers, generated documents, words with spaces, and trees that are evaluated
+//! by their parts. What commands show are rows of `tx_rows`.
 #![tactic(auto)]
 
 #[cfg(test)]
@@ -9,6 +9,8 @@ mod documents;
 mod edits;
 #[cfg(test)]
 mod generated;
+#[cfg(test)]
+mod kept;
 #[cfg(test)]
 mod leaving;
 #[cfg(test)]
