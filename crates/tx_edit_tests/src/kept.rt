@@ -23,6 +23,7 @@ fn mod_of<L: Ledger>(alloc: Global, line: &str, steps: &mut Steps<L>) -> Option<
 }
 
 // The modification in a list. None where it doesn't apply to the tree.
+#[tactic(auto, using(crate::proofs::Applied::one_applies))]
 fn alone(alloc: Global, t: &Tree, m: Mod) -> Option<Vec<Mod>>
     ensures { IfSome result (λ ms. (u : WideTree) × (changed_by_all ms.items t.now ≡ Some u)) }
 {
