@@ -18,7 +18,7 @@ struct LeftRow {
     // where the edit puts how many bytes
     at: u32,
     put: u32,
-    later: usize,
+    later: u32,
     // the length of a text that is refused where the edit is then taken back, modification by modification
     too_long: Option<u64>,
 }
@@ -127,7 +127,7 @@ impl LeftRow {
     }
 
     fn later(&self, alloc: Global) -> Option<Vec<ModList>> {
-        let text = text_of(alloc, b'y', self.later)?;
+        let text = text_of(alloc, b'y', self.later as usize)?;
         let mods = vec![in alloc; Mod::Insert(first_child(alloc)?, 0, text)].ok()?;
         vec![in alloc; ModList::from(mods)].ok()
     }
@@ -137,7 +137,7 @@ impl LeftRow {
         let [Mod::Insert(there, i, text), Mod::Remove(here, j, n)] = mods else {
             return false;
         };
-        let at = u64::from(self.at) + self.later as u64;
+        let at = u64::from(self.at) + u64::from(self.later);
         u64::from(*i) == at
             && *j == *i
             && *n == self.put
