@@ -53,13 +53,13 @@ IsKeyChange made before lacking after reply = IsWanting before after reply
 IsKeyChange made before unsaved after reply = ⊥
 IsKeyChange made before (told n) after reply = ⊥
 
--- so of an earlier edit that is taken back
-abbrev pub IsLeaveChange : Result StateEdit LeaveFault → SeenSession → LineMark → SeenSession → List ℕ → Type 0
-IsLeaveChange made before plain after reply =
-    IsLeaveAnswer before.state made after.state reply × IsKeptView (leave_fails before.state made) before after
-IsLeaveChange made before lacking after reply = IsWanting before after reply
-IsLeaveChange made before unsaved after reply = ⊥
-IsLeaveChange made before (told n) after reply = ⊥
+-- so of the n-th last edit, which is taken back
+abbrev pub IsLeaveChange : ℕ → Result StateEdit LeaveFault → SeenSession → LineMark → SeenSession → List ℕ → Type 0
+IsLeaveChange n made before plain after reply =
+    IsLeaveAnswer n before.state made after.state reply × IsKeptView (leave_fails before.state made) before after
+IsLeaveChange n made before lacking after reply = IsWanting before after reply
+IsLeaveChange n made before unsaved after reply = ⊥
+IsLeaveChange n made before (told k) after reply = ⊥
 
 -- this is what a key makes, unless memory ran out
 abbrev pub Makes : Result Move EditFault → Result Move EditFault → Type 0
