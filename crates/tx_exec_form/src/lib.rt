@@ -1,6 +1,6 @@
 //! Evaluation of trees: its definition, and its laws.
 //!
-//! `evaluated` of `specs/Evaluated.antt` is what a tree comes to in an environment, and its table is `specs/Rows.antt`.
+//! `evaluated` of `specs/Evaluated.antt` is what a tree evaluates to in an environment. `specs/Rows.antt` is its table.
 #![tactic(auto)]
 
 mod laws;

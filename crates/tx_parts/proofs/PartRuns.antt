@@ -1,4 +1,4 @@
--- A part in the whole is what its trace says.
+-- A part does in the whole what its trace says.
 use Rattle.std.proofs.Common.{◌≡◌, ℕ, ◌-◌, ◌<◌, ◌≤◌, min, ◌⊎◌, List, ap, refl, sym, ◌∙◌, arith}
 use mathlib.Core.Path.{fun_ext}
 use Rattle.std.specs.Prelude.{Option, Some, None}
@@ -31,7 +31,7 @@ begun k s low =
     ∙ ap (λ m. record { own = s.own; looks = m; left = s.left; slack = min s.slack k }) (looks_nothing s.looks s.own)
     ∙ ap (λ i. record { own = s.own; looks = s.looks; left = s.left; slack = i }) level
 
--- behind the part, by its trace
+-- after the part, by its trace
 ended : (k : ℕ) (path : List ℕ) (s : State) (t : TaggedTree) (e : Before) (r : Ran WideValue) →
     ex k t top e (start k s.left) ≡ r →
     ran_added (value_under path) s.own s.looks s.slack r ≡ part_ran k path s (traced k s.left r)
@@ -104,7 +104,7 @@ part_fits d e own looks more before here h = λ x v m.
     look_fits (d x) (e x) (get own x) (get looks x) v (before x) (here x v m)
     (λ u g. h x u (get_both looks own more x ∙ ap (λ o. option_or (get looks x) (unless (get own x) o)) m ∙ g))
 
--- and so do those of what was before the part
+-- the looks of what was before the part agree with d too
 pub before_fits : (d : Before) (own : NameMap) (looks more : LookMap) →
     Agrees d (both_looks looks own more) → Agrees d looks
 before_fits d own looks more h = λ x v m.
@@ -117,7 +117,7 @@ both_agree_at e own (Some u) k v before here h = before v h
 both_agree_at e (Some t) None k v before here h = cc
 both_agree_at e None None k v before here h = here v h
 
--- where both agree, so do the looks of both
+-- where the looks of two evaluations in order agree, the looks of both together do
 pub both_agree : (e : Before) (own : NameMap) (looks more : LookMap) → Agrees e looks → Agrees (env_atop own e) more →
     Agrees e (both_looks looks own more)
 both_agree e own looks more before here = λ x v m.
@@ -130,7 +130,7 @@ or_twice : (b a e : Option WideTree) → option_or (option_or b a) e ≡ option_
 or_twice (Some t) a e = refl
 or_twice None a e = refl
 
--- what two have set, one behind the other
+-- what two evaluations in order have set
 pub atop_twice : (later earlier : NameMap) (e : Before) →
     env_atop (atop later earlier) e ≡ env_atop later (env_atop earlier e)
 atop_twice later earlier e = fun_ext (λ x.

@@ -1,4 +1,4 @@
--- Evaluation in the whole is evaluation alone, seen in the whole: behind what was set and looked up before, with the
+-- Evaluation in the whole is evaluation alone, seen in the whole: after what was set and looked up before, with the
 -- origins under a path.
 use Rattle.std.proofs.Common.{◌≡◌, ℕ, zero, suc, ◌-◌, min, Bool, true, false, List, [], ◌∷◌, ◌++◌, length, map, ap}
 use Rattle.std.proofs.Common.{subst, refl, sym, ◌∙◌, arith}
@@ -48,7 +48,7 @@ use Rattle.tx_parts.proofs.UnderValues.{more_under, two_under, plain_all, whole_
 use Rattle.tx_parts.proofs.UnderValues.{count_under, odd_under, wholes_of_under, numbers_under, truth_under}
 use Rattle.tx_parts.proofs.UnderValues.{part_under, among_under, found_in, caller_under}
 
--- a state of the part, behind what the whole has set and looked up before it, where so many levels were left
+-- a state of the part, after what the whole has set and looked up before it, where so many levels were left
 abbrev pub added : NameMap → LookMap → ℕ → State → State
 added w l n s = record {
   own = atop s.own w;

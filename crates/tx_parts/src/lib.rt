@@ -1,4 +1,4 @@
-//! Evaluation by parts: an open tree comes to what its inner trees come to, each alone.
+//! Evaluation by parts: the value of an open tree is made of those of its inner trees, each evaluated alone.
 #![tactic(auto)]
 
 mod laws;

@@ -278,7 +278,7 @@ value_weight a v h =
     let own : Fits (show a v).form (size_of (plain v)) = show_weight a v h in
     omega (arith, unit_weight (show a v).form (show a v).after)
 
--- ---- a unit that is over
+-- ---- a unit that runs out
 
 over_form : (a : Attrs) → (show a over_value).form ≡ inline (run_of a (error_items a (codes "over") []))
 unfolding show rule_of
