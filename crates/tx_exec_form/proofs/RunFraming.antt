@@ -109,7 +109,8 @@ module _ (f : Frame) where
       by w =
           let held : FitAll c k k w.result w.state = fits k c ts e w.result w.state w.run in
           subst (λ (u : RunTrace). (total_size (plains (vals u.values)) ≤ u.cost)
-          × (deepest (plains (vals u.values)) ≤ u.height)) (sym w.is) (omega (arith, held.size), omega (arith, held.depth))
+          × (deepest (plains (vals u.values)) ≤ u.height)) (sym w.is)
+          (omega (arith, held.size), omega (arith, held.depth))
 
   -- with fewer steps or levels one of them runs out
   pub over : (trace : RunTrace) (k c : ℕ) (ts : List TaggedTree) (e : Before) → SupportsRun f trace ts →
