@@ -6,7 +6,7 @@
 mod laws;
 mod rows;
 
-pub use laws::{label_law, limit_laws, origin_law, size_law, trace_laws};
+pub use laws::{frame_laws, label_law, limit_laws, origin_law, run_laws, size_law, trace_laws};
 pub use rows::{Row, Taking, Unary, row_for};
 
 /// How many levels an evaluation has.

@@ -15,7 +15,7 @@ use Rattle.tx_parts.specs.Atop.{env_atop}
 use Rattle.tx_origin.specs.Under.{origin_under, tree_under, value_under}
 use Rattle.tx_parts.specs.Adding.{part_ran}
 use Rattle.tx_parts.specs.Shells.{Layer, bare, in_turn, by_origin, in_layers}
-use Rattle.tx_parts.proofs.UnderValues.{frame_under}
+use Rattle.tx_parts.specs.InFrames.{frame_under}
 use Rattle.tx_parts.proofs.Shifting.{ran_added, Shifts, next, needs, pays, overs, with_rows, ex_shifts}
 use Rattle.tx_parts.proofs.PartRuns.{begun}
 

@@ -43,7 +43,8 @@ use Rattle.tx_parts.specs.Atop.{atop, env_atop, both_looks}
 use Rattle.tx_origin.specs.Under.{origin_under, tree_under, value_under}
 use Rattle.tx_parts.proofs.Maps.{get_atop, atop_pair, both_set, both_unset}
 use Rattle.tx_origin.proofs.Under.{plain_under, plains_under, vals_under}
-use Rattle.tx_parts.proofs.UnderValues.{frame_under, found_under, text_under}
+use Rattle.tx_parts.specs.InFrames.{frame_under}
+use Rattle.tx_parts.proofs.UnderValues.{found_under, text_under}
 use Rattle.tx_parts.proofs.UnderValues.{more_under, two_under, plain_all, whole_under, kids_under, kids_of_under}
 use Rattle.tx_parts.proofs.UnderValues.{count_under, odd_under, wholes_of_under, numbers_under, truth_under}
 use Rattle.tx_parts.proofs.UnderValues.{part_under, among_under, found_in, caller_under}

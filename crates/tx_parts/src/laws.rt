@@ -14,13 +14,15 @@ ghost use Rattle.tx_origin.specs.Values.{WideValue, plain};
 ghost use Rattle.tx_origin.specs.TaggedTrees.{TaggedTree};
 ghost use Rattle.tx_exec_form.specs.Maps.{LookMap, noted};
 ghost use Rattle.tx_exec_form.specs.Runs.{Before, State, Done, Over};
-ghost use Rattle.tx_exec_form.specs.Frames.{top};
+ghost use Rattle.tx_exec_form.specs.Frames.{Frame, top};
 ghost use Rattle.tx_exec_form.specs.Rows.{ex};
 ghost use Rattle.tx_exec_form.specs.Evaluated.{WideTrace, evaluated_in, paid};
 ghost use Rattle.tx_exec_form.specs.Laws.{Agrees, Supports};
+ghost use Rattle.tx_exec_form.specs.Framed.{framed, SupportsFramed};
 ghost use Rattle.tx_parts.specs.Atop.{atop, env_atop, past, both_looks};
 ghost use Rattle.tx_origin.specs.Under.{tree_under, value_under};
 ghost use Rattle.tx_parts.specs.Adding.{after_part, part_ran};
+ghost use Rattle.tx_parts.specs.InFrames.{frame_under};
 ghost use Rattle.tx_parts.specs.Openness.{openness};
 ghost use Rattle.tx_parts.specs.Composed.{evaluates, composed_as};
 ghost use Rattle.tx_parts.specs.Layered.{composed};
@@ -43,6 +45,22 @@ pub fn part_law()
         (s.left < trace.cost) ⊎ (k < trace.height) → ex k (tree_under path t) top e s ≡ Over }
     ensures over { (trace : WideTrace) (k c : ℕ) (t : TaggedTree) (e : Before) → Supports trace t →
         Agrees e trace.looks → (c < trace.cost) ⊎ (k < trace.height) → evaluated_in k c t e ≡ None }
+{}
+
+/// A law: in any frame a part does in the whole what it does alone, as without one. The frame of the whole has the
+/// arguments of the part's frame, with their origins under the part's path.
+pub fn frame_law()
+    ensures part { (f : Frame) (k : ℕ) (path : List ℕ) (t : TaggedTree) (e : Before) (s : State) → s.slack ≤ k →
+        ex k (tree_under path t) (frame_under path f) e s ≡
+        part_ran k path s (framed f k s.left t (env_atop s.own e)) }
+    ensures kept { (f : Frame) (trace : WideTrace) (k : ℕ) (path : List ℕ) (t : TaggedTree) (e : Before) (s : State) →
+        s.slack ≤ k → SupportsFramed f trace t → Agrees (env_atop s.own e) trace.looks → trace.cost ≤ s.left →
+        trace.height ≤ k →
+        ex k (tree_under path t) (frame_under path f) e s ≡
+        Done (value_under path trace.value) (after_part k s trace) }
+    ensures too_dear { (f : Frame) (trace : WideTrace) (k : ℕ) (path : List ℕ) (t : TaggedTree) (e : Before)
+        (s : State) → s.slack ≤ k → SupportsFramed f trace t → Agrees (env_atop s.own e) trace.looks →
+        (s.left < trace.cost) ⊎ (k < trace.height) → ex k (tree_under path t) (frame_under path f) e s ≡ Over }
 {}
 
 /// A law: the trace of an open tree is composed of the traces of its inner trees, each evaluated alone in the

@@ -6,7 +6,8 @@ mod recomposition;
 mod shell_laws;
 
 pub use laws::{
-    atop_law, composition_law, cost_law, fitting_law, looks_law, part_law, past_law, standing_law,
+    atop_law, composition_law, cost_law, fitting_law, frame_law, looks_law, part_law, past_law,
+    standing_law,
 };
 pub use recomposition::recomposition_law;
 pub use shell_laws::{
