@@ -1,4 +1,4 @@
--- An edit inside one paragraph: each unit stays at its number and its path, and one has another tree.
+-- An edit inside one paragraph: each unit keeps its number and its path, and one has another tree.
 use Rattle.std.specs.Prelude.{◌≡◌, ℕ, zero, suc, ◌+◌, nat_eq, nat_lt, Bool, true, false, not, ◌&&◌, ◌||◌, ◌==◌}
 use Rattle.std.specs.Prelude.{if◌then◌else◌, List, [], ◌∷◌, length, Option, Some, None, slice_get}
 use Rattle.std.specs.Option.{option_map_or}

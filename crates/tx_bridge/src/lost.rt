@@ -45,7 +45,7 @@ fn lose(places: &mut [Option<Path>])
     }
 }
 
-/// What `places_after` answers. Where all places are lost, as after a keystroke, nothing is applied.
+/// Returns what `places_after` does. Where all places are lost, as after a keystroke, nothing is applied.
 pub(crate) fn places_left<L: Ledger>(
     alloc: Global,
     before: &Tree,
