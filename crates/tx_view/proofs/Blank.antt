@@ -62,7 +62,7 @@ pub tree_at : (buffers : List Buffer) (k : ℕ) (d : Buffer) → k < length buff
 tree_at buffers k d inside =
     ap (λ o. option_map_or (λ (b : Buffer). b.tree) o (leaf [])) (slice_get-get_or buffers k d inside)
 
--- ---- where nothing is kept
+-- ---- where nothing is cached
 
 pub empty_parts_is : (us : List DocUnit) → EmptyParts us ≡ map (λ u. []) us
 unfolding EmptyParts

@@ -25,7 +25,8 @@ use tx_bridge::Bridges;
 use tx_exec_form::trace_laws;
 use tx_unit_layout::Shown;
 
-// Evaluates the units of which nothing fits, and lays all units out. Answers by how much the steps rose.
+// Evaluates the units for which nothing that is cached fits, and lays out all units. Returns by how much the steps
+// rose.
 fn lay_out_all<L: Ledger>(
     alloc: Global,
     bridges: &mut Bridges,
