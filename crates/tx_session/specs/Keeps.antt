@@ -141,7 +141,7 @@ abbrev pub TakesAsking : (asks : Bool) → WholeSession → Command → ℕ → 
 TakesAsking true before command old new = new ≡ old + refresh_cost before.keep
 TakesAsking false before command old new = new ≤ old + most_steps before.seen.state command
 
--- where memory ran out; nothing is said of a refresh that wanted it
+-- where memory ran out; nothing is said of a refresh that ran out of it
 abbrev pub TakesLacking : (asks : Bool) → WholeSession → Command → ℕ → ℕ → Type 0
 TakesLacking true before command old new = before.keep.fresh ≡ true → new ≡ old
 TakesLacking false before command old new = new ≤ old + most_steps before.seen.state command

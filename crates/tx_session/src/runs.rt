@@ -95,7 +95,7 @@ fn session_of<L: Ledger>(
     Session::start(alloc, all.buffers.into_vec(), all.width, all.height, steps)
 }
 
-// Answers the script over the session, and writes the status's own line.
+// Runs the script over the session, and writes the status's own line.
 fn serve<S: Store, I: Source, O: Sink, L: Ledger>(
     alloc: Global,
     session: &mut Session,

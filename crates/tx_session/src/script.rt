@@ -34,7 +34,7 @@ fn refuse<O: Sink>(alloc: Global, out: &mut O, fault: CmdFault) -> Result<Next, 
     say(out, unread(alloc, fault).text())
 }
 
-// Answers a line that has ended.
+// Executes a line that has ended.
 fn answer_line<S: Store, O: Sink, L: Ledger>(
     alloc: Global,
     session: &mut Session,
@@ -143,7 +143,7 @@ fn take_piece<S: Store, O: Sink, L: Ledger>(
     Turn::Go
 }
 
-// Answers the script's last line, which ends with the script.
+// Executes the script's last line, which ends with the script.
 fn end_script<S: Store, O: Sink, L: Ledger>(
     alloc: Global,
     session: &mut Session,

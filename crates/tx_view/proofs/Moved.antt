@@ -63,7 +63,7 @@ IsLeft ss j k = (h : ℕ) → h < j → slice_get ss h ≡ Some (Some k) → ⊥
 abbrev pub AreOnce : List (Option ℕ) → Type 0
 AreOnce ss = (i j k : ℕ) → slice_get ss j ≡ Some (Some i) → slice_get ss k ≡ Some (Some i) → j ≡ k
 
--- Behind j new units. What is given and what is left to give are all, and what is left is as it was.
+-- After j new units. What is given and what is left to give are all, and what is left is as it was.
 pub record Giving (ss : List (Option ℕ)) (was old before now : List Shown) (j : ℕ) : Type 0 where
   pub given : take j now ++ moved (drop j ss) was (drop j now) ≡ moved ss was before
   pub left : (k : ℕ) → IsLeft ss j k → slice_get old k ≡ slice_get was k

@@ -47,7 +47,7 @@ fresh_stores us = record {
   laid_strays = [];
 }
 
--- ---- what a refresh leaves that lacked memory
+-- ---- what a refresh leaves that ran out of memory
 
 -- of unit i trace and attributes are those that the other stores have
 pub record HasUnitOf (stores other : ViewStores) (i : ℕ) : Type 0 where

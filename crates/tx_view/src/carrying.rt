@@ -233,8 +233,8 @@ fn move_onto(
     *hidden = new;
 }
 
-/// What is shown of the units, or else what is hidden, goes with them, and is hidden then. It takes no memory. Answers
-/// which one has changed alone since the view was fresh, if that is known.
+/// What is shown of the units, or else what is hidden, is carried with them, and is hidden then. It takes no memory.
+/// Returns which one has changed alone since the view was fresh, if that is known.
 pub(crate) fn move_shown(
     target: Target,
     bridges: &Bridges,

@@ -152,8 +152,8 @@ fn pass_attributes(
     Ok(())
 }
 
-// Lays all units out that aren't laid out for the attributes before them, the first at this moment with these
-// attributes. Answers how many items were laid out.
+// Lays out all units that aren't laid out for the attributes before them, the first at this moment with these
+// attributes. Returns how many items were laid out.
 fn lay_each<L: Ledger>(
     alloc: Global,
     variables: &Variables,
