@@ -1,4 +1,4 @@
--- Units of which nothing is laid out, and the buffers that they are of.
+-- Units without a layout, and the buffers that they are of.
 use Rattle.std.proofs.Common.{◌≡◌, ℕ, suc, ◌+◌, ◌<◌, List, [], ◌∷◌, ◌++◌, length, take, map, get_or, Option, Some, None}
 use Rattle.std.proofs.Common.{refl, ap, sym, subst, ◌∙◌}
 use Rattle.std.proofs.Common.{slice_set, slice_index_or}

@@ -28,7 +28,7 @@ use Rattle.tx_view.proofs.LaidByNumber.{now_by_number, all_now_by_number, laid_w
 
 -- ---- each part that moves is laid out, and its layout moves with it
 
--- what goes with the part
+-- what is carried with the part
 abbrev goes : List (List LaidAt) → Move → Option LaidMove
 goes all m = option_map (λ l. record { to = m.to; laid = l }) (moved_by_number all m)
 
@@ -174,7 +174,7 @@ all_go (suc buffer) ms t us pss lss ks ls vs many are =
 
 -- ---- what moves to a unit then
 
--- what goes with a part goes where it goes
+-- what is carried with a part moves where the part moves
 record GoesWith (all : List (List LaidAt)) (m : Move) (x : LaidMove) : Type 0 where
   to : m.to ≡ x.to
   laid : moved_by_number all m ≡ Some x.laid

@@ -1,4 +1,4 @@
--- What is shown of units went with them.
+-- What is shown of units has moved with them.
 use Rattle.std.proofs.Common.{◌≡◌, ℕ, zero, suc, ◌+◌, ◌<◌, ◌≤◌, List, [], ◌∷◌, ◌++◌, length, take, drop, map, slice_set}
 use Rattle.std.proofs.Common.{slice_index_or, true, false, Option, Some, None, refl, ap, sym}
 use Rattle.std.proofs.Common.{subst, ◌∙◌, arith}

@@ -86,7 +86,7 @@ same_ats a ks o u v tree placed =
     by (Some p) None e = cc
     by (Some p) (Some q) e = refl
 
--- ---- parts that go elsewhere
+-- ---- parts that move
 
 abbrev pub at_wide : WidePart → LaidAt
 at_wide w = record { path = w.path; before = w.laid.before }

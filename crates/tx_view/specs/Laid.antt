@@ -145,7 +145,7 @@ abbrev pub ArePartlyLaid : List (Option Attrs) → List (Option Attrs) → List 
 ArePartlyLaid old fresh new =
     (i : ℕ) → (slice_get new i ≡ slice_get old i) ⊎ (slice_get new i ≡ slice_get fresh i)
 
--- ---- what goes with units through an edit
+-- ---- what is carried with units through an edit
 
 -- nothing is shown of a unit with this path but these lines of parts
 pub record IsBlank (path : Option (List ℕ)) (ps : List WidePart) (x : Shown) : Type 0 where
@@ -308,7 +308,7 @@ abbrev pub IsFew : Target → Type 0
 IsFew (InPlace i silent places) = Unit {0}
 IsFew (Onto blanks) = length blanks.items < 2 ^ 32
 
--- what was shown has gone there
+-- what was shown has moved there
 abbrev pub HasGone : Target → List (Option ℕ) → List Shown → List Shown → Type 0
 HasGone (InPlace i silent places) ss old xs = StayBut places.items i 0 old xs
 HasGone (Onto blanks) ss old xs = xs ≡ moved ss old blanks.items

@@ -52,7 +52,7 @@ fn with_tree(
     Ok(all)
 }
 
-// The unit, of which nothing is laid out.
+// The unit without a layout.
 fn blank(alloc: Global, unit: &Unit) -> Result<Shown, Memory>
     ensures { IfOk result (λ x. IsBlank unit.now.path [] x) }
 {
@@ -66,7 +66,7 @@ fn blank(alloc: Global, unit: &Unit) -> Result<Shown, Memory>
     })
 }
 
-/// The units, of which nothing is laid out.
+/// The units without a layout.
 pub(crate) fn blanks(alloc: Global, units: &[Unit]) -> Result<Vec<Shown>, Memory>
     ensures { IfOk result (λ all. AreBlank units.now all.items) }
 {
@@ -214,7 +214,7 @@ fn former_of(silent: bool, fresh: bool, former: Option<Former>) -> Option<Former
     former
 }
 
-// What is shown goes to these, or else what is hidden, and is hidden then.
+// What is shown moves to these, or else what is hidden, and is hidden then.
 fn move_onto(
     blanks: Vec<Shown>,
     bridges: &Bridges,
