@@ -5,7 +5,7 @@ ghost use Rattle.tx_open.specs.Outcomes.{ComesTo, IsDecided, OpenOutcome};
 
 use tx_words::one_asking;
 
-/// A law: words and files come to one outcome, faults of the store and want of memory aside.
+/// A law: words and files have one outcome, apart from faults of the store and running out of memory.
 pub fn one_outcome()
     ensures { (words : List (List ℕ)) (told : Files) (o p : OpenOutcome) → ComesTo words (Some told) o
         → ComesTo words (Some told) p → IsDecided o → IsDecided p → o ≡ p }

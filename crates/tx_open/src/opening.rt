@@ -39,7 +39,7 @@ pub struct Opened {
     pub buffers: Buffers,
 }
 
-/// What opening comes to. A file is named by its word.
+/// The outcome of opening. A file is named by its word.
 #[derive(Drop)]
 pub enum Opening<'a> {
     /// The words ask for nothing.
@@ -157,8 +157,8 @@ fn generate<L: Ledger>(
 /// `tmx [--width N] [--height N] FILE [STYLE]...`; a file is in the Scheme syntax where its word ends in `.scm` or
 /// `.stm`, and else in TM.
 ///
-/// The first file that isn't there, is too long, spells no tree within the limits, or at which the store fails, is what
-/// it comes to, and no later file is loaded. Faulty words ask nothing of the store, nor do words that memory doesn't
+/// The first file that isn't there, is too long, spells no tree within the limits, or at which the store fails, is the
+/// outcome, and no later file is loaded. Faulty words ask nothing of the store, nor do words that memory doesn't
 /// suffice to read. The buffers hold the modern forms of the files' trees (`tx_doc::modern`). Where files are opened,
 /// the steps rise by at most twice the nodes of their trees that aren't leaves: each is read, and may be made modern.
 ///

@@ -44,7 +44,7 @@ pub record MemoryStore : Type 0 where
   pub misses : ℕ
   pub longs : ℕ
 
--- what is seen of them: they tell all that they hold
+-- what is seen of them: all their contents
 abbrev pub seen_source : MemorySource → SourceSeen
 seen_source source = record { left = Some source.left; faults = source.calls.faults }
 

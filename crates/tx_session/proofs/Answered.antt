@@ -1,4 +1,4 @@
--- What methods of a session answer is the reply to their commands.
+-- What methods of a session return is the reply to their commands.
 use Rattle.std.proofs.Common.{◌≡◌, ◌≢◌, ◌||◌, ℕ, Bool, true, false, not, List, Option, Some, None, Result, Ok, Err}
 use Rattle.std.proofs.Common.{refl, ap}
 use Rattle.std.proofs.Common.{sym, subst, ◌∙◌}
@@ -225,7 +225,7 @@ named_arrival fault outcome state reply named h e =
     subst (λ o. IsArrival o state (reply_mark reply) state (reply_text reply)) (sym e)
     (subst (λ m. IsArrival (Err fault) state m state (reply_text reply)) (sym said.1) (named, refl, said.0))
 
--- the same of the state alone
+-- where the key has this fault, the state is unchanged and its reply is the fault's
 pub idle_arrival : (fault : EditFault) (outcome : Result Move EditFault) (state : State) (reply : Reply)
     → IsIdleReply fault reply → (fault ≢ Memory → outcome ≡ Err fault)
     → IsArrival outcome state (reply_mark reply) state (reply_text reply)
@@ -252,7 +252,7 @@ edits t (Err fault) h = tt
 
 -- ---- the view
 
--- the answer to a command that prints the view
+-- the result of a command that prints the view
 pub printed_answer : (it : Command) (width height : ℕ) (state : State) (v : WideView) → Prints it
     → IsView state.buffers width height v → IsAnswer width height state it state (view_reply width v it)
 printed_answer Show width height state v p h = (v, h, (refl, refl))
@@ -368,7 +368,7 @@ pub printed_wanting : (it : Command) (before after : SeenSession) (store : Store
 printed_wanting it before after store p e f =
     lacked it before after store wanting_reply (printed_lacks it before p f) (e, refl)
 
--- the number of steps is told
+-- the reply to `work` is the number of steps
 pub work_told : (n : ℕ) (before : SeenSession) (w t : ℕ) (store : StoreSeen) → w ≡ before.width → t ≡ before.height
     → IsReply (record { session = before; store = store }) Work (told n)
     (record { session = record { state = before.state; width = w; height = t; fresh = true }; store = store })

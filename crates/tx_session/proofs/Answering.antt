@@ -1,4 +1,4 @@
--- A command has one answer in a state.
+-- A command has one result in a state.
 use Rattle.std.proofs.Common.{◌≡◌, inl, inr, ℕ, List, Option, Some, None, Result, Ok, Err, ap, sym, subst, ◌∙◌}
 use Rattle.std.specs.Prelude.{codes}
 use Rattle.tx_mod.specs.declared.faults.ModFault.{ModFault}

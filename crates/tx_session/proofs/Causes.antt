@@ -282,7 +282,7 @@ module _ (words : List (List ℕ)) (stored first : StoreSeen) (old steps : ℕ) 
       (λ e. cut_run
       (subst (λ st. IsServed input_rose st beginning last input.left behind.left before.written after.written) e s))
 
--- the same, or memory ran out before its session began
+-- a whole run, or memory ran out before its session began
 module _ (words : List (List ℕ)) (stored first later : StoreSeen) (old mid new : ℕ) (input behind : SourceSeen)
     (all : Opened) (status : Status) (before after : SinkSeen) (loaded : KeepsFiles stored first)
     (within : mid ≤ old + 2 * nodes_in_buffers all.buffers) (comes : ComesTo words stored.files (opened all)) where

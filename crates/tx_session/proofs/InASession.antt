@@ -1,4 +1,4 @@
--- Every buffer of a session is well formed, at present and at each moment that is kept.
+-- Every buffer of a session is well formed, at present and at each moment of its history.
 use Rattle.std.proofs.Common.{◌≡◌, ◌⊎◌, inl, inr, ℕ, zero, suc, ◌<◌, Bool, true, false, List, [], ◌∷◌, ◌++◌}
 use Rattle.std.proofs.Common.{length, take, Option, Some, None, Result, Ok, Err, refl, sym, ap, subst, ◌∙◌}
 use Rattle.std.proofs.Common.{append_assoc, arith}
@@ -84,7 +84,7 @@ record IsFormed (s : State) : Type 0 where
 
 -- ---- buffers
 
--- the empty text stands where there is no buffer
+-- the empty text is used where there is no buffer
 nothing_formed : IsFormedTree (leaf [])
 nothing_formed = (no_bytes, record { text = omega arith; arity = omega arith; depth = omega arith; size = omega arith })
 

@@ -190,7 +190,7 @@ spaced reply some =
           (omega (arith, some, store, ap spaces_in e)),
     )
 
--- a text, two more behind spaces, and a last byte
+-- a text, two more after spaces, and a last byte
 two_spaces : (a b c : List ℕ) (last : ℕ) (more : List ℕ) → 2 ≤ spaces_in (a ++ 32 ∷ b ++ 32 ∷ c ++ last ∷ [] ++ more)
 unfolding spaces_in
 two_spaces a b c last more = omega (
@@ -276,7 +276,7 @@ pub plain_done : (before after : SeenWorld) (it : Command) (reply : List ℕ) �
 plain_done before after it reply h =
     plain_answer before.session.width before.session.height before.session.state it after.session.state reply h.answer
 
--- of the steps that are told
+-- of the steps that are printed
 pub plain_told : (n : ℕ) → IsPlainReply (work_reply n)
 plain_told n = begun (work_reply n) refl
 

@@ -1,4 +1,4 @@
--- The answer to a command: what it makes of the state, and the reply.
+-- The result of a command: what it makes of the state, and the reply.
 use Rattle.std.specs.Prelude.{◌≡◌, ◌≢◌, ◌⊎◌, ℕ, List, [], ◌∷◌, codes, length}
 use Rattle.std.specs.Prelude.{Option, Some, None, Result, Ok, Err, IfOk}
 use Rattle.tx_tree.specs.PathSpelling.{place_text}
@@ -108,7 +108,7 @@ IsGoAnswer state numbers next reply =
 abbrev pub whole_place : BasedPlace → Place
 whole_place p = record { path = whole_path p; offset = p.offset }
 
--- the cursor went to the place behind a cell, or there is no such cell
+-- the cursor went to the place of a cell, or there is no such cell
 abbrev pub IsClickAnswer : State → (none : List ℕ) → Option BasedPlace → State → List ℕ → Type 0
 IsClickAnswer state none (Some p) next reply = (next ≡ record state { cursor = whole_place p }) × (reply ≡ done_reply)
 IsClickAnswer state none None next reply = (next ≡ state) × (reply ≡ none)
@@ -167,7 +167,7 @@ IsAnswer width height state Cursor next reply =
 IsAnswer width height state Tree next reply = (next ≡ state) × (reply ≡ line (scheme_text (selected_tree state)))
 IsAnswer width height state (Save name) next reply =
     (next ≡ state) × (reply ≡ save_reply (saving (form_of name) (selected_tree state)))
--- its reply is that of a number that is told
+-- its reply is that of a number that is printed
 IsAnswer width height state Work next reply = ⊥
 IsAnswer width height state Quit next reply = (next ≡ state) × (reply ≡ [])
 IsAnswer width height state command next reply = IsViewAnswer width height state command next reply

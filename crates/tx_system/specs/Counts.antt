@@ -15,7 +15,7 @@ misses_of store = store.misses
 abbrev pub longs_of : {R : Type 0} → FileStore R → ℕ
 longs_of store = store.longs
 
--- what is seen of the files, whose contents aren't told
+-- what is seen of the files, whose contents aren't known
 abbrev pub seen_files : {R : Type 0} → FileStore R → StoreSeen
 seen_files store =
     record {

@@ -17,7 +17,7 @@ use std::rt::Files;
 use std::{fs, str};
 use tx_outside::{LoadFault, MOST_FILE, SaveFault, Store};
 
-/// The files of the system. It tells no contents, and counts what went wrong.
+/// The files of the system. It reports no contents, and counts what went wrong.
 #[derive(Drop)]
 pub struct FileStore<'a, R> {
     alloc: Global,
@@ -80,7 +80,7 @@ impl<R: Files> Store for FileStore<'_, R> {
         requires { out.old.items ≡ [] }
         ensures read { OnOk result (AreAllOf R.File.remaining out.new.items) }
 
-        // What the trait says, of files whose contents aren't told.
+        // What the trait says, of files whose contents aren't known.
         ensures loaded { OnOk result (IfSome (seen_files self.old).files
             (λ all. file_of all name.now ≡ Some out.new.items)) }
         ensures within_limit { OnOk result (length out.new.items ≤ MOST_FILE) }
@@ -112,7 +112,7 @@ impl<R: Files> Store for FileStore<'_, R> {
     fn save(&mut self, name: &[u8], bytes: &[u8]) -> Result<(), SaveFault>
         ensures written { OnOk result (AreGivenTo R.File.contents bytes.now) }
 
-        // What the trait says, of files whose contents aren't told.
+        // What the trait says, of files whose contents aren't known.
         ensures saved { OnOk result
             (WhereKnown (WithFile name.now bytes.now) (seen_files self.old).files (seen_files self.new).files) }
         ensures failed_rose { IsErrOf result SaveFault.Failed → Rose (faults_of self.old) (faults_of self.new) }

@@ -12,8 +12,8 @@ use super::stored_file::StoredFile;
 use crate::{LoadFault, MOST_FILE, SaveFault, Store};
 use std::marker::Model;
 
-/// A store of files in memory. Its calls, loads and saves alike, are numbered from 0, and those whose
-/// numbers it is given fail. The number stands from 2^64 - 1 on.
+/// A store of files in memory. Its calls, loads and saves alike, are numbered from 0, and those whose numbers it is
+/// given fail. The number stops at 2^64 - 1.
 #[derive(Drop)]
 pub struct MemStore {
     files: Vec<StoredFile>,
@@ -47,7 +47,7 @@ impl MemStore {
         }
     }
 
-    /// The bytes that are kept under a name. `None` comes exactly where there is no such file.
+    /// The bytes that are stored under a name. `None` comes exactly where there is no such file.
     pub fn file(&self, name: &[u8]) -> Option<&[u8]>
         ensures file { option_copied result ≡ file_of self.now.files name.now }
         ensures names_differ { NamesDiffer self.now.files }
@@ -59,11 +59,11 @@ impl MemStore {
 impl Store for MemStore {
     ghost seen = { seen_store };
 
-    /// Every call takes a number, whatever it answers.
+    /// Every call takes a number, whatever it returns.
     fn load(&mut self, name: &[u8], out: &mut Vec<u8>) -> Result<(), LoadFault>
         requires { out.old.items ≡ [] }
 
-        // Which fault comes: a failure by the call's number alone, else one by what is kept.
+        // Which fault comes: a failure by the call's number alone, else one by the stored files.
         ensures failed { IsErrOf result LoadFault.Failed ↔ NextFails self.old.calls }
         ensures missing { IsErrOf result LoadFault.Missing
             ↔ (¬ NextFails self.old.calls × IsAbsent name.now self.old.files) }
@@ -110,7 +110,7 @@ impl Store for MemStore {
         Ok(())
     }
 
-    /// Every call takes a number, whatever it answers. A call that fails changes no file.
+    /// Every call takes a number, whatever it returns. A call that fails changes no file.
     fn save(&mut self, name: &[u8], bytes: &[u8]) -> Result<(), SaveFault>
         ensures failed { IsErrOf result SaveFault.Failed ↔ NextFails self.old.calls }
         ensures saved { OnOk result (WithFile name.now bytes.now self.old.files self.new.files) }
