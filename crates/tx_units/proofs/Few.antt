@@ -337,7 +337,7 @@ few_entries t h = by (section (codes "initial") t) refl
 
 -- ---- all of them
 
-base_count : length base_units ≡ 26
+pub base_count : length base_units ≡ 26
 unfolding base_units base_style
 base_count = refl
 

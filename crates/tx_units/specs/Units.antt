@@ -80,6 +80,12 @@ front_units document styles = base_units ++ (style_units document styles ++ init
 abbrev pub units : List Buffer → List DocUnit
 units buffers = front_units (document_of buffers) (drop 1 buffers) ++ body_units (document_of buffers)
 
+-- those of the buffers over others than the base style's
+abbrev pub units_over : List DocUnit → List Buffer → List DocUnit
+units_over base buffers =
+    (base ++ (style_units (document_of buffers) (drop 1 buffers) ++ initial_units (document_of buffers)))
+    ++ body_units (document_of buffers)
+
 -- ---- one of them with another tree
 
 -- the unit, where it has this tree
@@ -109,3 +115,8 @@ nodes_made us = sum_by (λ u. made_as u.kind u.tagged.tree) us
 -- those of all units of the buffers
 abbrev pub made : List Buffer → ℕ
 made buffers = nodes_made (units buffers)
+
+-- those of all units but the base style's
+abbrev pub made_over : List Buffer → ℕ
+made_over buffers =
+    nodes_made (style_units (document_of buffers) (drop 1 buffers)) + nodes_made (initial_units (document_of buffers))

@@ -12,6 +12,9 @@ use std::sync::ledger::Ledger;
 use tx_base::{Memory, Steps};
 use tx_tree::{ReadFault, Tree};
 
+/// How many units the base style has.
+pub const BASE_UNITS: u32 = 26;
+
 // The trees of the base style, in the Scheme syntax.
 const BASE_STYLE: [&str; 26] = [
     r#"(assign "font-series" "medium")"#,

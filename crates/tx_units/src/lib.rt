@@ -17,8 +17,8 @@ mod lists;
 mod styles;
 mod tags;
 
-pub use base::base_units;
+pub use base::{BASE_UNITS, base_units};
 pub use inside::leaves_others;
 pub use kinds::{Unit, UnitKind};
-pub use laws::{body_laws, inside_law, unit_count_law};
-pub use lists::units;
+pub use laws::{base_law, body_laws, inside_law, unit_count_law};
+pub use lists::{units, units_over};

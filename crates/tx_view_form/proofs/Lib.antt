@@ -2,7 +2,8 @@ mod LineCounts
 mod ErrorCounts
 mod ClusterCounts
 mod FormWeights
-mod ShownWeights
+pub mod Labelled
+pub mod ShownWeights
 mod Parting
 mod Single
 mod ClusterCuts
