@@ -154,7 +154,8 @@ both_traced k c v s (Some b) p q h =
     let height : k - min s.slack (k - b.height) ≡ max (k - s.slack) b.height = omega (arith, q, most.1) in
     ap Some (trace_same (both_looks s.looks s.own b.looks) (atop b.writes s.own)
     (v ∷ map (value_under []) b.values) (v ∷ b.values) (c - (s.left - b.cost)) ((c - s.left) + b.cost)
-    (k - min s.slack (k - b.height)) (max (k - s.slack) b.height) (ap (λ us. v ∷ us) (values_same b.values)) cost height)
+    (k - min s.slack (k - b.height)) (max (k - s.slack) b.height)
+    (ap (λ us. v ∷ us) (values_same b.values)) cost height)
 
 pub next_is : (f : Frame) (k c : ℕ) (t : TaggedTree) (ts : List TaggedTree) (e : Before) →
     run_framed f k c (t ∷ ts) e ≡ run_joined f k c t ts e
