@@ -49,7 +49,7 @@ tag_stage Empty false = Ordinary
 tag_stage Alone c = Ordinary
 tag_stage Ordinary c = Ordinary
 
--- a block that is behind no white
+-- a block without white at its end
 abbrev pub block_at : Stage → List WideTree → Inline → Block
 block_at s full now = record { full = full; now = now; run = None; stage = s }
 

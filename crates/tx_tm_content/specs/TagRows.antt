@@ -1,4 +1,4 @@
--- Tags that may become the children of a collection, or stand in paragraphs.
+-- Tags that may become the children of a collection, or be in paragraphs.
 use Rattle.std.specs.Prelude.{◌≡◌, ℕ, List, map, Option, Some, None}
 use Rattle.tx_tm_form.specs.Growing.{CollectionEntry}
 use Rattle.tx_tm_content.specs.declared.tag_rows.TagEntry.{TagEntry}
