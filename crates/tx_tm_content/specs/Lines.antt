@@ -24,7 +24,7 @@ abbrev pub IsMade : Option WideTree → WideTree → Type 0
 IsMade None t = IsWithinLimits t → ⊥
 IsMade (Some u) t = u ≡ t
 
--- grown, or else no tree within the limits comes of it
+-- grown, or else it leads to no tree within the limits
 abbrev pub IsLine : Option Inline → Inline → Type 0
 IsLine None g = (around : ℕ) → LineFits around g → ⊥
 IsLine (Some h) g = h ≡ g

@@ -2,7 +2,7 @@
 //! be the block of a collection.
 //!
 //! What content stands for is in `tx_tm_form` (`specs/Growing.antt`). Each function is one of its equations, or returns
-//! None where no tree within the limits can come of it (`specs/ContentFits.antt`).
+//! None where it can lead to no tree within the limits (`specs/ContentFits.antt`).
 #![tactic(auto)]
 
 mod blocks;

@@ -15,7 +15,7 @@ use Rattle.tx_tm_read.specs.Spots.{state_of}
 abbrev pub byte_machine : Reader → Bytewise Keeping
 byte_machine r = at (lex_of r.lexer) (record { behind_join = r.behind_join; state = state_of r.spot })
 
--- this, or else no tree within the limits comes of it
+-- this, or else it leads to no tree within the limits
 abbrev pub IsReader : Option Reader → Bytewise Keeping → Type 0
 IsReader None w = ReaderFits w → ⊥
 IsReader (Some r) w = byte_machine r ≡ w

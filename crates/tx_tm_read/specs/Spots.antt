@@ -34,7 +34,7 @@ abbrev pub behind_argument : TagPlace → Open → List Open → machine.State
 behind_argument InHeader f fs = in_tag None f fs
 behind_argument p f fs = closed f fs
 
--- this state, or else no tree within the limits comes of it
+-- this state, or else it leads to no tree within the limits
 abbrev pub IsState : Option Spot → machine.State → Type 0
 IsState None m = StateFits m → ⊥
 IsState (Some s) m = state_of s ≡ m
