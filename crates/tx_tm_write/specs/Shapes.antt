@@ -72,7 +72,7 @@ digits_of (cons t ts) = text_or_empty t
 abbrev pub is_long : List ℕ → Forest → Bool
 is_long label ts = not (same_bytes label collection_label) && has_block ts
 
--- the same, with the digits
+-- the node is raw data with these digits
 pub record IsRaw (label : List ℕ) (ts : List WideTree) (digits : List ℕ) : Type 0 where
   pub raw : is_raw label (forest ts) ≡ true
   pub are : digits_of (forest ts) ≡ digits
