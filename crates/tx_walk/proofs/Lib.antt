@@ -20,6 +20,7 @@ pub mod Soundness
 pub mod Behind
 pub mod Descents
 pub mod Texts
+mod EachOnce
 pub mod Elsewhere
 pub mod Within
 pub mod Layered

@@ -1,7 +1,10 @@
 -- The cached traces of layers' trees, and which trees they hold.
-use Rattle.std.specs.Prelude.{◌≡◌, ℕ, Bool, true, false, ◌&&◌, ◌||◌, List, [], ◌∷◌, Option, Some, None, IfSome, refl}
+use Rattle.std.specs.Prelude.{◌≡◌, ◌≢◌, ℕ, Bool, true, false, ◌&&◌, ◌||◌, List, [], ◌∷◌, Option, Some, None, IfSome}
+use Rattle.std.specs.Prelude.{refl}
+use Rattle.std.specs.List.{list_all}
+use Rattle.std.specs.Option.{option_map_or}
 use Rattle.std.specs.Coded.{Coded, code_by, coded×, coded_list, coded_option, coded_bool, coded_ℕ}
-use Rattle.std.specs.FinMap.{code}
+use Rattle.std.specs.FinMap.{code, entries, get}
 use Rattle.tx_tree.specs.WideTree.{WideTree, coded_WideTree}
 use Rattle.tx_env.specs.Pairs.{Name}
 use Rattle.tx_env.specs.Environments.{NameMap, coded_NameMap}
@@ -15,7 +18,7 @@ use Rattle.tx_exec.specs.Outcomes.{wide_trace}
 use Rattle.tx_parts.specs.Shells.{Layer, bare}
 use Rattle.tx_parts.specs.Opening.{Sheller}
 use Rattle.tx_parts.specs.LayerCosts.{Holder, HoldsMore, layer_costs_by, layer_costs_in}
-use Rattle.tx_walk.specs.SameTrees.{is_same}
+use Rattle.tx_walk.specs.SameTrees.{is_same, same}
 use Rattle.tx_walk.specs.Held.{agrees}
 use Rattle.tx_walk.specs.Walked.{AreOnce}
 
@@ -67,6 +70,37 @@ abbrev pub AllHeldBy : Holder → List DoneSetting → Type 0
 AllHeldBy held [] = Unit {0}
 AllHeldBy held (s ∷ ss) = IsHeldWith held s.done × AllHeldBy held ss
 
+-- ---- each once
+
+-- these looks found the same for the name
+abbrev pub has_look : LookMap → Name × Option WideTree → Bool
+has_look looks look = option_map_or (λ found. same found look.1) (get looks look.0) false
+
+-- each of the looks is among the others
+abbrev pub are_among : LookMap → LookMap → Bool
+are_among looks others = list_all (has_look others) (entries looks)
+
+-- it is the trace of this tree, and what it looked up is among these looks
+abbrev pub is_of : WideTree → LookMap → TreeTrace → Bool
+is_of t looks m = is_same m.tree t && are_among m.trace.looks looks
+
+-- they have different trees, or one tree with different looks
+abbrev pub Differ : TreeTrace → TreeTrace → Type 0
+Differ a b = a.tree ≡ b.tree → a.trace.looks ≢ b.trace.looks
+
+abbrev pub AllDiffer : TreeTrace → List TreeTrace → Type 0
+AllDiffer m [] = Unit {0}
+AllDiffer m (x ∷ xs) = Differ x m × AllDiffer m xs
+
+-- no two of them have the same tree and the same looks
+abbrev pub AreEachOnce : List TreeTrace → Type 0
+AreEachOnce [] = Unit {0}
+AreEachOnce (m ∷ ms) = AllDiffer m ms × AreEachOnce ms
+
+-- the traces of a list in which each is once
+pub record Listed : Type 0 where
+  pub items : List TreeTrace
+
 -- ---- what a walk leaves
 
 -- What was held before is still held. What a tree costs of layers is nothing for each holder that holds at least the
@@ -111,3 +145,6 @@ abbrev pub coded_DoneSetting : Coded DoneSetting
 coded_DoneSetting =
     code_by (Name × (TreeTrace × Bool)) (coded× (coded_list coded_ℕ) (coded× coded_TreeTrace coded_bool))
     (λ s. (s.name, (s.done, s.held))) (λ p. record { name = p.0; done = p.1.0; held = p.1.1 }) (λ _. refl)
+
+abbrev pub coded_Listed : Coded Listed
+coded_Listed = code_by (List TreeTrace) (coded_list coded_TreeTrace) (λ l. l.items) (λ ms. record { items = ms }) (λ _. refl)

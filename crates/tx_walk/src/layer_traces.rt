@@ -1,15 +1,15 @@
 // The cached traces of layers' trees.
-ghost use Rattle.std.specs.Prelude.{◌≡◌, true, false, IfOk, IsTrue, MatchOption};
+ghost use Rattle.std.specs.Prelude.{◌≡◌, true, false, IfOk, MatchOption};
+ghost use Rattle.std.specs.List.{list_all, list_any};
 ghost use Rattle.std.specs.FinMap.{from_entries};
 ghost use Rattle.tx_origin.specs.Values.{plain};
 ghost use Rattle.tx_exec_form.specs.Laws.{Supports};
 ghost use Rattle.tx_exec.specs.States.{before_of};
 ghost use Rattle.tx_exec.specs.Outcomes.{wide_trace};
 ghost use Rattle.tx_parts.specs.Shells.{bare};
-ghost use Rattle.tx_walk.specs.SameTrees.{is_same};
-ghost use Rattle.tx_walk.specs.Held.{agrees};
+ghost use Rattle.tx_walk.specs.SameTrees.{same};
 ghost use Rattle.tx_walk.specs.Walked.{AreOnce};
-ghost use Rattle.tx_walk.specs.LayerTraces.{TreeTrace, serves_for, holds_in, IsHeldWith};
+ghost use Rattle.tx_walk.specs.LayerTraces.{serves_for, holds_in, has_look, is_of};
 
 use crate::fitting::{looks_agree, same_trees};
 use crate::sharing::share_trace;
@@ -95,41 +95,36 @@ impl LayerTrace {
         same_trees(&self.tree, t) && looks_agree(env, &self.trace.looks)
     }
 
-    // Whether it is this tree's, with these looks.
+    // Whether it is this tree's, and what it looked up is among these looks.
     fn is_of(&self, tree: &Tree, looks: &Looks) -> bool
-        ensures { IsTrue result → (self.now.tree ≡ tree.now) × (self.now.trace.looks ≡ from_entries looks.now) }
+        ensures { result ≡ is_of tree.now (from_entries looks.now) self.now }
     {
-        same_trees(&self.tree, tree) && same_looks(&self.trace.looks, looks)
+        same_trees(&self.tree, tree) && are_among(&self.trace.looks, looks)
     }
 }
 
-// Whether the looks are the same, one by one.
-fn same_looks(looks: &Looks, others: &Looks) -> bool
-    ensures { IsTrue result → looks.now ≡ others.now }
+// Whether each of the looks is among the others.
+fn are_among(looks: &Looks, others: &Looks) -> bool
+    ensures { result ≡ list_all (has_look (from_entries others.now)) looks.now }
 {
-    let ours = looks.pairs();
-    let theirs = others.pairs();
-    if ours.len() != theirs.len() {
-        return false;
-    }
-    for i in 0..ours.len() {
-        if !same_look(&ours[i], &theirs[i]) {
-            return false;
+    looks.pairs().iter().all(|look| has_look(others, look))
+}
+
+// Whether these looks found the same for the name.
+fn has_look(looks: &Looks, look: &(Text, Option<Tree>)) -> bool
+    ensures { result ≡ has_look (from_entries looks.now) look.now }
+{
+    for pair in looks.pairs() {
+        if look.0.bytes() == pair.0.bytes() {
+            return same_found(&pair.1, &look.1);
         }
     }
-    true
-}
-
-// Whether the looks are the same.
-fn same_look(look: &(Text, Option<Tree>), other: &(Text, Option<Tree>)) -> bool
-    ensures { IsTrue result → look.now ≡ other.now }
-{
-    look.0.bytes() == other.0.bytes() && same_found(&look.1, &other.1)
+    false
 }
 
 // Whether equal trees were found, or nothing.
 fn same_found(found: &Option<Tree>, other: &Option<Tree>) -> bool
-    ensures { IsTrue result → found.now ≡ other.now }
+    ensures { result ≡ same found.now other.now }
 {
     match (found, other) {
         (None, None) => true,
@@ -138,17 +133,11 @@ fn same_found(found: &Option<Tree>, other: &Option<Tree>) -> bool
     }
 }
 
-/// Whether this tree's trace with these looks is among them.
+/// Whether a trace of this tree is listed whose looks are all among these.
 pub(crate) fn is_listed(layers: &[LayerTrace], tree: &Tree, looks: &Looks) -> bool
-    ensures { IsTrue result → (m : TreeTrace) → m.tree ≡ tree.now → m.trace.looks ≡ from_entries looks.now →
-        IsHeldWith (holds_in layers.now) m }
+    ensures { result ≡ list_any (is_of tree.now (from_entries looks.now)) layers.now }
 {
-    for i in 0..layers.len() {
-        if layers[i].is_of(tree, looks) {
-            return true;
-        }
-    }
-    false
+    layers.iter().any(|layer| layer.is_of(tree, looks))
 }
 
 /// What holds the tree where names have this. `next` is the number that is likely next.

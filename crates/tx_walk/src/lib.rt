@@ -9,6 +9,7 @@ mod evaluating;
 mod fitting;
 mod joined;
 mod laws;
+mod layer_list;
 mod layer_traces;
 mod layering;
 mod layers;

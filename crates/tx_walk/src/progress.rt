@@ -2,7 +2,7 @@
 ghost use Rattle.std.specs.Prelude.{◌≡◌, ◌+◌, []};
 ghost use Rattle.tx_walk.specs.Spending.{capped};
 
-use crate::layer_traces::LayerTrace;
+use crate::layer_list::LayerList;
 use std::alloc::Global;
 
 /// The numbers that are likely next: of parts and of layers' trees, each in the cache and in the spare.
@@ -20,7 +20,7 @@ pub(crate) struct NextNumbers {
 pub(crate) struct WalkProgress {
     pub next: NextNumbers,
     pub spent: u64,
-    pub layers: Vec<LayerTrace>,
+    pub layers: LayerList,
 }
 
 impl WalkProgress {
@@ -37,7 +37,7 @@ impl WalkProgress {
                 spare_layers: 0,
             },
             spent: 0,
-            layers: Vec::new(alloc),
+            layers: LayerList::new(alloc),
         }
     }
 

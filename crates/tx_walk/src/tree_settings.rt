@@ -11,7 +11,8 @@ ghost use Rattle.tx_walk.specs.LayerTraces.{holds_in, IsHeldWith, AllHeldBy};
 ghost use Rattle.tx_walk.specs.Layers.{nodes_left, new_nodes, pair_of_setting, pairs_of_settings};
 ghost use Rattle.tx_walk.specs.Spending.{RisesAlike};
 
-use crate::layer_traces::{LayerTrace, is_listed};
+use crate::layer_list::LayerList;
+use crate::layer_traces::LayerTrace;
 use crate::progress::WalkProgress;
 use crate::sharing::share_trace;
 use std::alloc::Global;
@@ -122,17 +123,12 @@ impl TreeSetting {
     }
 
     // Adds the tree's trace to these, once.
-    fn keep(&self, alloc: Global, set: &Tree, layers: &mut Vec<LayerTrace>) -> Result<(), Memory>
+    fn keep(&self, alloc: Global, set: &Tree, layers: &mut LayerList) -> Result<(), Memory>
         requires { set.now ≡ plain self.now.done.trace.value }
         ensures more { OnOk result (HoldsMore (holds_in layers.old.items) (holds_in layers.new.items)) }
         ensures held { OnOk result (IsHeldWith (holds_in layers.new.items) self.now.done) }
     {
-        if is_listed(layers, &self.tree, &self.trace.looks) {
-            return Ok(());
-        }
-        let trace = share_trace(alloc, &self.trace)?;
-        layers.push(LayerTrace::new(self.tree.share()?, trace, set.share()?))?;
-        Ok(())
+        layers.keep(alloc, &self.tree, &self.trace, set)
     }
 
     // The name with what it is set to. The tree's trace is added to those of the walk.

@@ -10,7 +10,7 @@ ghost use Rattle.tx_parts.specs.Composed.{evaluates};
 ghost use Rattle.tx_parts.specs.Opening.{shells_by};
 ghost use Rattle.tx_parts.specs.Parts.{parts, parts_by};
 ghost use Rattle.tx_parts.specs.LayerCosts.{layer_costs_by};
-ghost use Rattle.tx_walk.specs.LayerTraces.{holds_in, holds_either, AreKnownBy};
+ghost use Rattle.tx_walk.specs.LayerTraces.{holds_in, holds_either, AreKnownBy, AreEachOnce};
 ghost use Rattle.tx_walk.specs.Guides.{guide_of, charged};
 ghost use Rattle.tx_walk.specs.Held.{AreSound, charges};
 ghost use Rattle.tx_walk.specs.Walked.{IsTidy, IsPlaced, stores_in, paths_of, seen, seen_parts};
@@ -18,6 +18,7 @@ ghost use Rattle.tx_walk.specs.Finding.{AreFindable};
 ghost use Rattle.tx_walk.specs.Prior.{stores_of};
 ghost use Rattle.tx_walk.specs.Steps.{IsAdded, IsReady, parts_if_done};
 
+use crate::layer_list::LayerList;
 use crate::layer_traces::LayerTrace;
 use crate::part::Part;
 use crate::prior::PriorStores;
@@ -89,7 +90,7 @@ fn unit_of(
     outcome: Outcome,
     charge: u64,
     done: Vec<Part>,
-    layers: Vec<LayerTrace>,
+    layers: LayerList,
 ) -> Walked
     requires names_once { NamesOnce outcome }
     requires ready { All IsReady done.items }
@@ -97,6 +98,7 @@ fn unit_of(
     ensures charge { result.charge ≡ charge }
     ensures parts { result.parts.items ≡ parts_if_done (wide_outcome outcome) done.items }
     ensures layers { IfSome (wide_outcome outcome) (λ (trace : WideTrace). result.layers.items ≡ layers.items) }
+    ensures each_once { AreEachOnce result.layers.items }
     ensures once { NamesOnce result.outcome }
     ensures tidy { All IsTidy result.parts.items }
     ensures placed { All IsPlaced result.parts.items }
@@ -112,7 +114,7 @@ fn unit_of(
             outcome: Outcome::Done(trace),
             charge,
             parts: done,
-            layers,
+            layers: layers.into_traces(),
         },
     }
 }
@@ -165,6 +167,7 @@ pub fn walk_with<O: Opener, L: Ledger>(
     ensures layers { IfOk result (λ w. IfSome (wide_outcome w.outcome) (λ (trace : WideTrace).
         layer_costs_by (holds_in w.layers.items) (shells_by (O.opens opener.now)) MOST_LEVELS allowance t.now
         (before_of env.old) ≡ 0)) }
+    ensures each_once { IfOk result (λ w. AreEachOnce w.layers.items) }
     ensures once { IfOk result (λ w. NamesOnce w.outcome) }
     ensures tidy { IfOk result (λ w. All IsTidy w.parts.items) }
     ensures placed { IfOk result (λ w. All IsPlaced w.parts.items) }
