@@ -1,5 +1,5 @@
-mod LineCounts
-mod ErrorCounts
+pub mod LineCounts
+pub mod ErrorCounts
 mod ClusterCounts
 mod FormWeights
 pub mod Labelled
