@@ -1,0 +1,67 @@
+// A law of the rows of tables.
+ghost use Rattle.std.specs.Prelude.{◌≡◌, ℕ, ◌<◌, true, List, [], ◌∷◌, ◌++◌, map, length, Some, option_and_then};
+ghost use Rattle.std.specs.Prelude.{slice_get, if◌then◌else◌, codes};
+ghost use Rattle.tx_origin.specs.Values.{WideValue};
+ghost use Rattle.tx_table.specs.declared.grids.Grid.{Grid};
+ghost use Rattle.tx_table.specs.Columns.{across};
+ghost use Rattle.tx_table.specs.Grids.{grid_of};
+ghost use Rattle.tx_items.specs.declared.attributes.Attrs.{Attrs};
+ghost use Rattle.tx_items.specs.declared.drawing.Item.{Item};
+ghost use Rattle.tx_items.specs.declared.drawing.Paragraph.{Paragraph};
+ghost use Rattle.tx_items.specs.Cells.{cells_across};
+ghost use Rattle.tx_items.specs.RowPlaces.{FitsRow, ColumnStands};
+ghost use Rattle.tx_items.specs.Shows.{show, listed, bad};
+ghost use Rattle.tx_layout.specs.declared.layout.Line.{Line};
+ghost use Rattle.tx_layout.specs.Frames.{line_frame};
+ghost use Rattle.tx_layout.specs.Segments.{HasWords};
+ghost use Rattle.tx_layout.specs.Shapes.{items_shown, IsShape};
+ghost use Rattle.tx_layout.specs.OneLine.{one_line};
+ghost use Rattle.tx_view_form.specs.Views.{UnitView, AreLines, IsShown, lines_of};
+ghost use Rattle.tx_view_form.specs.Cells.{drawn_in, drawn_at};
+ghost use Rattle.tx_view_form.specs.Positions.{Mark, mark_of, start_of, position_in};
+ghost use Rattle.tx_table_rows.specs.GridRows.{rows_fit, columns_of, cells_at, sides_at, row_at, all_rows, IsTable};
+ghost use Rattle.tx_table_rows.specs.RowLines.{HasRoom, row_line, IsLineBetween, IsPageRow, CellCovers};
+
+use tx_items::row_law;
+use tx_view_form::table_place_law;
+
+/// A law: a `tabular` with a grid shows a paragraph for each row, in order, where each cell shows in a line that nothing
+/// ends; else it shows as an error. In a row each cell is in its column, after the columns before it with a gap of 2 each
+/// and its left pad. A row that has room is one line, and else it is filled first-fit like other items. What a cell shows
+/// in a row that has room is found at its columns of the page, and its place is the position there.
+pub fn shown_rows_law()
+    ensures shown { (a : Attrs) (v : WideValue) (g : Grid) → grid_of v ≡ Some g →
+        (show a v).form
+        ≡ (if rows_fit a g.rows then listed (all_rows a g) else (bad a (codes "tabular")).form) }
+    ensures rows { (a : Attrs) (v : WideValue) (g : Grid) (width : ℕ) (path : List ℕ) (x : UnitView) → IsTable a v g →
+        IsShown width a v (Some path) x → x.paragraphs ≡ all_rows a g }
+    ensures sides { (a : Attrs) (v : WideValue) (g : Grid) (i : ℕ) → IsTable a v g → i < length g.rows →
+        (length (sides_at g i) ≡ length (cells_at a g i)) × (0 < length (cells_at a g i))
+        × FitsRow (columns_of a g) (sides_at g i) (cells_at a g i) }
+    ensures cells { (a : Attrs) (v : WideValue) (g : Grid) (i j : ℕ) (cell : List Item) → IsTable a v g →
+        i < length g.rows → slice_get (cells_at a g i) j ≡ Some cell →
+        ColumnStands (columns_of a g) (sides_at g i) (cells_at a g i) j cell }
+    ensures row { (a : Attrs) (v : WideValue) (g : Grid) (i : ℕ) → IsTable a v g → i < length g.rows →
+        cells_across (row_at a g i).items ≡ across (columns_of a g) }
+    ensures lines { (a : Attrs) (v : WideValue) (g : Grid) (width i : ℕ) (before after : List Paragraph)
+        (lines : List Line) → IsTable a v g → i < length g.rows → HasRoom a g width i →
+        AreLines width (before ++ row_at a g i ∷ after) lines →
+        IsLineBetween width before after (row_line a g width i) lines }
+    ensures all { (a : Attrs) (v : WideValue) (g : Grid) (width : ℕ) (path : List ℕ) (x : UnitView) → IsTable a v g →
+        ((i : ℕ) → i < length g.rows → HasRoom a g width i) → IsShown width a v (Some path) x →
+        x.lines ≡ map (λ p. one_line p width) (all_rows a g) }
+    ensures wide { (a : Attrs) (v : WideValue) (g : Grid) (width i : ℕ) (lines : List Line) → IsTable a v g →
+        i < length g.rows → IsShape (row_at a g i) width lines →
+        HasWords (line_frame (row_at a g i) width) true (items_shown (row_at a g i) width) lines }
+    ensures drawn { (a : Attrs) (v : WideValue) (g : Grid) (width i : ℕ) (xs : List UnitView) (r : ℕ) (path : List ℕ)
+        (j : ℕ) (item : Item) (c : ℕ) → IsTable a v g → IsPageRow a g width i xs r path →
+        CellCovers a g width i j item c →
+        option_and_then (λ line. drawn_at line c) (slice_get (lines_of xs) r) ≡ drawn_in item }
+    ensures place { (a : Attrs) (v : WideValue) (g : Grid) (width i : ℕ) (xs : List UnitView) (r : ℕ) (path : List ℕ)
+        (j : ℕ) (item : Item) (c : ℕ) (m : Mark) → IsTable a v g → IsPageRow a g width i xs r path →
+        CellCovers a g width i j item c → mark_of item ≡ Some m →
+        position_in xs width r c ≡ Some (start_of path m) }
+{
+    row_law();
+    table_place_law();
+}
