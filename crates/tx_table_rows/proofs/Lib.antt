@@ -1,0 +1,4 @@
+mod Showing
+mod Fitting
+mod Filling
+mod Standing
