@@ -14,7 +14,7 @@ use Rattle.tx_items.specs.declared.attributes.Attrs.{Attrs}
 use Rattle.tx_items.specs.declared.drawing.Item.{Item}
 use Rattle.tx_items.specs.declared.drawing.Paragraph.{Paragraph}
 use Rattle.tx_items.specs.Drawing.{paragraph}
-use Rattle.tx_items.specs.Tables.{ShownRow, levels_of, row_items, row_paragraphs}
+use Rattle.tx_items.specs.Tables.{ShownRow, levels_of, row_items, row_paragraphs, table_paragraphs}
 use Rattle.tx_items.specs.Rules.{rule_of}
 use Rattle.tx_items.specs.Rules as rules
 use Rattle.tx_items.specs.Running.{all_cells}
@@ -183,8 +183,7 @@ made_shown a label vs at g e =
     let cells : AllShown = show_below (levels_of vs) a vs in
     let all : AllShown = show_all false a (vals (all_cells g.rows)) in
     let same : cells ≡ all = below_all (levels_of vs) a vs ∙ ap (λ us. show_all false a (vals us)) (sym holds.1) in
-    let told : List ShownRow → Form = λ rows.
-    listed (row_paragraphs (Rattle.tx_table.specs.Columns.column_widths (Rattle.tx_items.specs.Tables.row_widths rows)) g.sides rows) in
+    let told : List ShownRow → Form = λ rows. listed (table_paragraphs g.sides rows) in
     ap (λ s. s.form) (tabular_is a label vs at g e)
     ∙ ap (λ x. (tabular_shown a label (Some g) x).form) same
     ∙ pick label (grid_label label vs at g e) (shows.cells_fit all.each) (rows_fit a g.rows) (fits_all a g.rows) all
