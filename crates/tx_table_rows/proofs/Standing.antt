@@ -1,1 +1,111 @@
--- Placeholder.
+-- A row of a table on its page.
+use Rattle.std.proofs.Common.{◌≡◌, ℕ, zero, suc, ◌+◌, ◌-◌, ◌<◌, ◌≤◌, Bool, true, false, cond, List, [], ◌∷◌, ◌++◌}
+use Rattle.std.proofs.Common.{map, length, take, drop, Option, Some, None, refl, sym, ap, ◌∙◌, arith}
+use Rattle.std.specs.Prelude.{nat_lt, slice_get, option_and_then}
+use Rattle.std.specs.Option.{option_map}
+use Rattle.std.proofs.lemmas.List.Sums.{sum_by-cons, sum_by-append}
+use Rattle.std.proofs.lemmas.List.Concat.{flat_map-cons}
+use Rattle.tx_origin.specs.RelativePlaces.{BasedPlace}
+use Rattle.tx_items.specs.declared.drawing.Item.{Item}
+use Rattle.tx_items.specs.declared.drawing.Paragraph.{Paragraph}
+use Rattle.tx_items.specs.Cells.{item_cells, cells_across}
+use Rattle.tx_items.specs.RowPlaces.{StandsAt}
+use Rattle.tx_layout.specs.declared.layout.Line.{Line}
+use Rattle.tx_layout.specs.declared.measures.Side.{Side}
+use Rattle.tx_layout.specs.declared.measures.Side.TheVariants.{Left, Center, Right, Justify}
+use Rattle.tx_layout.specs.Frames.{line_frame, least_width, first_indent, right_margin}
+use Rattle.tx_layout.specs.Segments.{shift}
+use Rattle.tx_layout.specs.OneLine.{one_line}
+use Rattle.tx_view_form.specs.Views.{UnitView, lines_of}
+use Rattle.tx_view_form.specs.Cells.{row_in}
+use Rattle.tx_view_form.specs.Positions.{place_on, place_in, position_in}
+
+-- ---- the line of a row of all
+
+in_first : {X : Type 0} (xs ys : List X) (k : ℕ) (x : X) → slice_get xs k ≡ Some x → slice_get (xs ++ ys) k ≡ Some x
+in_first [] ys k x e = absurd cc
+in_first (z ∷ xs) ys zero x e = e
+in_first (z ∷ xs) ys (suc k) x e = in_first xs ys k x e
+
+in_rest : {X : Type 0} (xs ys : List X) (r : ℕ) → length xs ≤ r
+    → slice_get (xs ++ ys) r ≡ slice_get ys (r - length xs)
+in_rest [] ys r h = let e : r ≡ r - 0 = omega arith in ap (slice_get ys) e
+in_rest (x ∷ xs) ys zero h = absurd (omega arith)
+in_rest (x ∷ xs) ys (suc r) h =
+    let e : r - length xs ≡ suc r - length (x ∷ xs) = omega arith in
+    in_rest xs ys r (omega arith) ∙ ap (slice_get ys) e
+
+not_less : (m n : ℕ) → nat_lt m n ≡ false → n ≤ m
+not_less m n h = grind arith
+
+less : (m n : ℕ) → m < n → nat_lt m n ≡ true
+less m n h = grind arith
+
+pub line_there : (xs : List UnitView) (r : ℕ) (x : UnitView) (k : ℕ) (line : Line) → row_in xs r ≡ Some (x, k)
+    → slice_get x.lines k ≡ Some line → slice_get (lines_of xs) r ≡ Some line
+line_there [] r x k line e there = absurd cc
+line_there (y ∷ ys) r x k line e there = pick (nat_lt r (length y.lines)) refl e (λ h. line_there ys (r - length y.lines) x k line h there)
+  where
+    pair_in : Option (UnitView × ℕ) → UnitView × ℕ
+    pair_in None = (y, r)
+    pair_in (Some p) = p
+
+    split : lines_of (y ∷ ys) ≡ y.lines ++ lines_of ys
+    split = flat_map-cons (λ z. z.lines) y ys
+
+    pick : (b : Bool) → nat_lt r (length y.lines) ≡ b
+        → cond b (Some (y, r)) (row_in ys (r - length y.lines)) ≡ Some (x, k)
+        → (row_in ys (r - length y.lines) ≡ Some (x, k) → slice_get (lines_of ys) (r - length y.lines) ≡ Some line)
+        → slice_get (lines_of (y ∷ ys)) r ≡ Some line
+    pick true is h rest =
+        let pair : Some (y, r) ≡ Some (x, k) = h in
+        let unit : y ≡ x = ap (λ o. (pair_in o).0) pair in
+        let row : r ≡ k = ap (λ o. (pair_in o).1) pair in
+        ap (λ ls. slice_get ls r) split
+        ∙ in_first y.lines (lines_of ys) r line (ap (λ z. slice_get z.lines r) unit ∙ ap (slice_get x.lines) row ∙ there)
+    pick false is h rest =
+        ap (λ ls. slice_get ls r) split ∙ in_rest y.lines (lines_of ys) r (not_less r (length y.lines) is) ∙ rest h
+
+-- ---- a line with all of a paragraph is within its page
+
+shift_le : (side : Side) (free : ℕ) → shift side free ≤ free
+shift_le Left free = omega arith
+shift_le Center free = omega arith
+shift_le Right free = omega arith
+shift_le Justify free = omega arith
+
+pub within_page : (p : Paragraph) (width : ℕ) → cells_across p.items ≤ least_width (line_frame p width)
+    → 0 < cells_across p.items → (one_line p width).indent + cells_across p.items ≤ width
+within_page p width narrow some =
+    let first : ℕ = width - first_indent p width - right_margin p width in
+    let moved : shift (line_frame p width).side (first - cells_across p.items) ≤ first - cells_across p.items =
+    shift_le (line_frame p width).side (first - cells_across p.items) in
+    let room : cells_across p.items ≤ first = omega arith in
+    omega arith
+
+-- what is in a cell is in its row
+pub in_row : (items cell front back : List Item) (item : Item) (at : ℕ) → StandsAt items at cell
+    → cell ≡ front ++ item ∷ back → at + cells_across front + item_cells item ≤ cells_across items
+in_row items cell front back item at st parts =
+    let whole = ap cells_across st.are in
+    let a = sum_by-append item_cells (st.front ++ cell) st.back in
+    let b = sum_by-append item_cells st.front cell in
+    let own = ap cells_across parts in
+    let d = sum_by-append item_cells front (item ∷ back) in
+    let e = sum_by-cons item_cells item back in
+    let place = st.cells in
+    omega arith
+
+-- ---- the position at a column
+
+pub position_there : (xs : List UnitView) (width r c : ℕ) (x : UnitView) (k : ℕ) (path : List ℕ) (line : Line)
+    (place : BasedPlace) → c < width → row_in xs r ≡ Some (x, k) → x.path ≡ Some path → slice_get x.lines k ≡ Some line
+    → place_on path (take k x.lines) line (drop (k + 1) x.lines) c ≡ place → position_in xs width r c ≡ Some place
+position_there xs width r c x k path line place h found has there is =
+    ap (λ b. cond b (option_and_then (λ p. place_in p.0 p.1 c) (row_in xs r)) None) (less c width h)
+    ∙ ap (option_and_then (λ p. place_in p.0 p.1 c)) found
+    ∙ ap
+    (option_and_then
+    (λ q. option_map (λ l. place_on q (take k x.lines) l (drop (k + 1) x.lines) c) (slice_get x.lines k))) has
+    ∙ ap (option_map (λ l. place_on path (take k x.lines) l (drop (k + 1) x.lines) c)) there
+    ∙ ap (λ q. Some q) is
