@@ -34,14 +34,14 @@ use Rattle.tx_view_form.specs.TableCells.{IsTableRow}
 use Rattle.tx_table_rows.specs.GridRows.{rows_fit, columns_of, sides_at, cells_at, row_at, all_rows, IsTable}
 use Rattle.tx_table_rows.specs.RowLines.{HasRoom, row_line, IsLineBetween}
 use Rattle.tx_table_rows.proofs.Showing.{table_shown}
-use Rattle.tx_table_rows.proofs.Fitting.{has_row, RowHas, row_has, row_whole}
+use Rattle.tx_table_rows.proofs.Fitting.{has_row, TakesColumns, row_full, row_whole}
 
 -- ---- a row that has room
 
-pub is_row : (a : Attrs) (v : WideValue) (g : Grid) (width i : ℕ) → IsTable a v g → i < length g.rows
+pub is_row : TakesColumns → (a : Attrs) (v : WideValue) (g : Grid) (width i : ℕ) → IsTable a v g → i < length g.rows
     → HasRoom a g width i → IsTableRow (row_at a g i) width (columns_of a g) (sides_at g i) (cells_at a g i)
-is_row a v g width i table h room =
-    let has = row_has a v g i table h in
+is_row takes a v g width i table h room =
+    let has = row_full takes a v g i table h in
     record { made = refl; some = has.some; fits = has.fits; whole = row_whole a v g i table h; narrow = room }
 
 -- these are the lines of a paragraph that is in one line
@@ -222,10 +222,28 @@ row_words p width (n ∷ ns) (s ∷ ss) (x ∷ xs) lines is fits some whole shap
     (all_capped least p.items
     (subst (All Whole) (sym is) (from_whole 0 (n ∷ ns) (s ∷ ss) (x ∷ xs) whole))) shape
 
-pub row_filled : (a : Attrs) (v : WideValue) (g : Grid) (width i : ℕ) (lines : List Line) → IsTable a v g
+pub row_filled : TakesColumns → (a : Attrs) (v : WideValue) (g : Grid) (width i : ℕ) (lines : List Line) → IsTable a v g
     → i < length g.rows → IsShape (row_at a g i) width lines
     → HasWords (line_frame (row_at a g i) width) true (items_shown (row_at a g i) width) lines
-row_filled a v g width i lines table h shape =
-    let has = row_has a v g i table h in
+row_filled takes a v g width i lines table h shape =
+    let has = row_full takes a v g i table h in
     row_words (row_at a g i) width (columns_of a g) (sides_at g i) (cells_at a g i) lines refl has.fits has.some
     (row_whole a v g i table h) shape
+
+-- ---- a unit of a table all of whose rows have room
+
+-- what the law of rows on lines says
+abbrev pub AreOneLine : Type 0
+AreOneLine =
+    (p : Paragraph) (width : ℕ) (columns : List ℕ) (sides : List Side) (cells : List (List Item)) (lines : List Line)
+    → IsTableRow p width columns sides cells → IsShape p width lines → lines ≡ one_line p width ∷ []
+
+pub lines_alone : TakesColumns → AreOneLine → (a : Attrs) (v : WideValue) (g : Grid) (width : ℕ) (path : List ℕ)
+    (x : UnitView) → IsTable a v g → ((i : ℕ) → i < length g.rows → HasRoom a g width i)
+    → IsShown width a v (Some path) x → x.lines ≡ map (λ p. one_line p width) (all_rows a g)
+lines_alone takes one a v g width path x table room shown =
+    only_rows a g width x.lines
+    (λ i h own shape.
+    one (row_at a g i) width (columns_of a g) (sides_at g i) (cells_at a g i) own
+    (is_row takes a v g width i table h (room i h)) shape)
+    (subst (λ ps. AreLines width ps x.lines) (unit_rows a v g width path x table shown) shown.lines)

@@ -9,7 +9,7 @@ use Rattle.std.proofs.lemmas.List.Elements.{All-nil, All-cons}
 use Rattle.tx_origin.specs.Values.{WideValue, text, made, each_of}
 use Rattle.tx_table.specs.declared.grids.Grid.{Grid}
 use Rattle.tx_table.specs.declared.settings.Side.{Side}
-use Rattle.tx_table.specs.Columns.{wider, column_widths}
+use Rattle.tx_table.specs.Columns.{wider, column_widths, across}
 use Rattle.tx_table.specs.Settings.{parts_if}
 use Rattle.tx_table.specs.Grids.{all_some, some_of, only_part, some_parts, row_cells, table_rows, before_last, last_of}
 use Rattle.tx_table.specs.Grids.{grid_with, table_grid, format_grid, grid_of}
@@ -17,13 +17,13 @@ use Rattle.tx_items.specs.declared.attributes.Attrs.{Attrs}
 use Rattle.tx_items.specs.declared.drawing.Item.{Item}
 use Rattle.tx_items.specs.declared.drawing.Item.TheVariants.{Glyph, Space, Chance, Gap, Break, PageEnd, Down}
 use Rattle.tx_items.specs.Cells.{cells_across}
-use Rattle.tx_items.specs.Tables.{is_cut, row_widths}
+use Rattle.tx_items.specs.Tables.{is_cut, row_items, row_widths}
 use Rattle.tx_items.specs.RowPlaces.{FitsRow}
 use Rattle.tx_items.specs.Shows.{Form, inline, listed, run_items, items_in, fits_cell, show}
 use Rattle.tx_items.proofs.Below.{AreSome, grid_holds}
 use Rattle.tx_layout.specs.Shapes.{is_break, Whole}
 use Rattle.tx_table_rows.specs.GridRows.{shown_cells, cells_fit, after_cells, shown_rows, rows_fit, after_rows}
-use Rattle.tx_table_rows.specs.GridRows.{columns_of, sides_at, cells_at, IsTable}
+use Rattle.tx_table_rows.specs.GridRows.{columns_of, sides_at, cells_at, IsFullRow, IsTable}
 use Rattle.tx_table_rows.proofs.Showing.{cells_long}
 
 -- ---- what a grid has
@@ -92,6 +92,12 @@ is_full (made label vs at) g e = let h = grid_holds label vs at g e in (h.0, h.2
 
 -- ---- sides and columns
 
+-- what the law of rows says
+abbrev pub TakesColumns : Type 0
+TakesColumns =
+    (columns : List ℕ) (sides : List Side) (cells : List (List Item)) → FitsRow columns sides cells
+    → 0 < length cells → cells_across (row_items columns sides cells) ≡ across columns
+
 sided : (a : Attrs) (rows : List (List WideValue)) (sides : List (List Side)) (i : ℕ)
     → map length sides ≡ map length rows → i < length rows
     → length (get_or sides i []) ≡ length (shown_cells (after_rows a (take i rows)) (get_or rows i []))
@@ -147,18 +153,17 @@ row_fits a (row ∷ rows) (ss ∷ sides) (suc i) same h =
     (get_or sides i []) (shown_cells (after_rows (after_cells a row) (take i rows)) (get_or rows i []))
     (row_fits (after_cells a row) rows sides i others (omega arith))
 
-pub record RowHas (a : Attrs) (g : Grid) (i : ℕ) : Type 0 where
-  pub sides : length (sides_at g i) ≡ length (cells_at a g i)
-  pub some : 0 < length (cells_at a g i)
-  pub fits : FitsRow (columns_of a g) (sides_at g i) (cells_at a g i)
-
-pub row_has : (a : Attrs) (v : WideValue) (g : Grid) (i : ℕ) → IsTable a v g → i < length g.rows → RowHas a g i
-row_has a v g i table h =
+pub row_full : TakesColumns → (a : Attrs) (v : WideValue) (g : Grid) (i : ℕ) → IsTable a v g → i < length g.rows
+    → IsFullRow a g i
+row_full takes a v g i table h =
     let full = is_full v g table.grid in
+    let some = celled a g.rows i full.1 h in
+    let fits = row_fits a g.rows g.sides i full.0 h in
     record {
+      some = some;
       sides = sided a g.rows g.sides i full.0 h;
-      some = celled a g.rows i full.1 h;
-      fits = row_fits a g.rows g.sides i full.0 h;
+      fits = fits;
+      across = takes (columns_of a g) (sides_at g i) (cells_at a g i) fits some;
     }
 
 -- ---- nothing in a cell ends a line

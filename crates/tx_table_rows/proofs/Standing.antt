@@ -1,11 +1,19 @@
 -- A row of a table on its page.
 use Rattle.std.proofs.Common.{◌≡◌, ℕ, zero, suc, ◌+◌, ◌-◌, ◌<◌, ◌≤◌, Bool, true, false, cond, List, [], ◌∷◌, ◌++◌}
-use Rattle.std.proofs.Common.{map, length, take, drop, Option, Some, None, refl, sym, ap, ◌∙◌, arith}
+use Rattle.std.proofs.Common.{map, length, take, drop, get_or, Option, Some, None, refl, sym, ap, ◌∙◌, subst, arith}
 use Rattle.std.specs.Prelude.{nat_lt, slice_get, option_and_then}
+use Rattle.std.specs.List.{range_with_len}
 use Rattle.std.specs.Option.{option_map}
+use Rattle.std.proofs.lemmas.Option.{slice_get-get_or, slice_get-map}
+use Rattle.std.proofs.lemmas.List.{length-append, length-map}
+use Rattle.std.proofs.lemmas.List.FromFn.{length-range_with_len, get_or-range_with_len, length-map-range_with_len}
 use Rattle.std.proofs.lemmas.List.Sums.{sum_by-cons, sum_by-append}
 use Rattle.std.proofs.lemmas.List.Concat.{flat_map-cons}
 use Rattle.tx_origin.specs.RelativePlaces.{BasedPlace}
+use Rattle.tx_origin.specs.TaggedTrees.{tagged_of}
+use Rattle.tx_units.specs.declared.kinds.Unit.{Unit as DocUnit}
+use Rattle.tx_table.specs.declared.grids.Grid.{Grid}
+use Rattle.tx_items.specs.declared.attributes.Attrs.{Attrs}
 use Rattle.tx_items.specs.declared.drawing.Item.{Item}
 use Rattle.tx_items.specs.declared.drawing.Paragraph.{Paragraph}
 use Rattle.tx_items.specs.Cells.{item_cells, cells_across}
@@ -16,9 +24,14 @@ use Rattle.tx_layout.specs.declared.measures.Side.TheVariants.{Left, Center, Rig
 use Rattle.tx_layout.specs.Frames.{line_frame, least_width, first_indent, right_margin}
 use Rattle.tx_layout.specs.Segments.{shift}
 use Rattle.tx_layout.specs.OneLine.{one_line}
-use Rattle.tx_view_form.specs.Views.{UnitView, lines_of}
+use Rattle.tx_view_form.specs.Outcomes.{Moment, outcome, behind, unit_value}
+use Rattle.tx_view_form.specs.Started.{attributes_of}
+use Rattle.tx_view_form.specs.Views.{UnitView, IsShown, AreShown, lines_of}
 use Rattle.tx_view_form.specs.Cells.{row_in}
 use Rattle.tx_view_form.specs.Positions.{place_on, place_in, position_in}
+use Rattle.tx_table_rows.specs.GridRows.{row_at, all_rows}
+use Rattle.tx_table_rows.specs.RowLines.{HasRoom, row_line, IsPageRow}
+use Rattle.tx_table_rows.specs.TableUnits.{moment_before}
 
 -- ---- the line of a row of all
 
@@ -35,8 +48,11 @@ in_rest (x ∷ xs) ys (suc r) h =
     let e : r - length xs ≡ suc r - length (x ∷ xs) = omega arith in
     in_rest xs ys r (omega arith) ∙ ap (slice_get ys) e
 
-not_less : (m n : ℕ) → nat_lt m n ≡ false → n ≤ m
-not_less m n h = grind arith
+not_lower : (m n : ℕ) → nat_lt m n ≡ false → n ≤ m
+not_lower m n h = grind arith
+
+not_below : (m n : ℕ) → n ≤ m → nat_lt m n ≡ false
+not_below m n h = grind arith
 
 less : (m n : ℕ) → m < n → nat_lt m n ≡ true
 less m n h = grind arith
@@ -44,7 +60,8 @@ less m n h = grind arith
 pub line_there : (xs : List UnitView) (r : ℕ) (x : UnitView) (k : ℕ) (line : Line) → row_in xs r ≡ Some (x, k)
     → slice_get x.lines k ≡ Some line → slice_get (lines_of xs) r ≡ Some line
 line_there [] r x k line e there = absurd cc
-line_there (y ∷ ys) r x k line e there = pick (nat_lt r (length y.lines)) refl e (λ h. line_there ys (r - length y.lines) x k line h there)
+line_there (y ∷ ys) r x k line e there =
+    pick (nat_lt r (length y.lines)) refl e (λ h. line_there ys (r - length y.lines) x k line h there)
   where
     pair_in : Option (UnitView × ℕ) → UnitView × ℕ
     pair_in None = (y, r)
@@ -58,13 +75,12 @@ line_there (y ∷ ys) r x k line e there = pick (nat_lt r (length y.lines)) refl
         → (row_in ys (r - length y.lines) ≡ Some (x, k) → slice_get (lines_of ys) (r - length y.lines) ≡ Some line)
         → slice_get (lines_of (y ∷ ys)) r ≡ Some line
     pick true is h rest =
-        let pair : Some (y, r) ≡ Some (x, k) = h in
-        let unit : y ≡ x = ap (λ o. (pair_in o).0) pair in
-        let row : r ≡ k = ap (λ o. (pair_in o).1) pair in
+        let unit : y ≡ x = ap (λ o. (pair_in o).0) h in
+        let row : r ≡ k = ap (λ o. (pair_in o).1) h in
         ap (λ ls. slice_get ls r) split
         ∙ in_first y.lines (lines_of ys) r line (ap (λ z. slice_get z.lines r) unit ∙ ap (slice_get x.lines) row ∙ there)
     pick false is h rest =
-        ap (λ ls. slice_get ls r) split ∙ in_rest y.lines (lines_of ys) r (not_less r (length y.lines) is) ∙ rest h
+        ap (λ ls. slice_get ls r) split ∙ in_rest y.lines (lines_of ys) r (not_lower r (length y.lines) is) ∙ rest h
 
 -- ---- a line with all of a paragraph is within its page
 
@@ -109,3 +125,77 @@ position_there xs width r c x k path line place h found has there is =
     (λ q. option_map (λ l. place_on q (take k x.lines) l (drop (k + 1) x.lines) c) (slice_get x.lines k))) has
     ∙ ap (option_map (λ l. place_on path (take k x.lines) l (drop (k + 1) x.lines) c)) there
     ∙ ap (λ q. Some q) is
+
+-- ---- the row of all that is a line of a unit
+
+pub row_there : (xs : List UnitView) (n i : ℕ) (x : UnitView) → slice_get xs n ≡ Some x → i < length x.lines
+    → row_in xs (length (lines_of (take n xs)) + i) ≡ Some (x, i)
+row_there [] n i x e h = absurd cc
+row_there (y ∷ ys) zero i x e h =
+    let same : y ≡ x = cc in
+    let within : i < length y.lines = subst (λ z. i < length z.lines) (sym same) h in
+    let place : length (lines_of (take 0 (y ∷ ys))) + i ≡ i = omega arith in
+    ap (row_in (y ∷ ys)) place
+    ∙ ap (λ b. cond b (Some (y, i)) (row_in ys (i - length y.lines))) (less i (length y.lines) within)
+    ∙ ap (λ z. Some (z, i)) same
+row_there (y ∷ ys) (suc n) i x e h =
+    let rest : ℕ = length (lines_of (take n ys)) + i in
+    let long : length (lines_of (take (suc n) (y ∷ ys))) ≡ length (y.lines ++ lines_of (take n ys)) =
+    ap length (flat_map-cons (λ z. z.lines) y (take n ys)) in
+    let sum = length-append y.lines (lines_of (take n ys)) in
+    let place : length (lines_of (take (suc n) (y ∷ ys))) + i ≡ length y.lines + rest = omega arith in
+    let behind : length y.lines + rest - length y.lines ≡ rest = omega arith in
+    ap (row_in (y ∷ ys)) place
+    ∙ ap (λ b. cond b (Some (y, length y.lines + rest)) (row_in ys (length y.lines + rest - length y.lines)))
+    (not_below (length y.lines + rest) (length y.lines) (omega arith))
+    ∙ ap (row_in ys) behind ∙ row_there ys n i x e h
+
+number_there : (n i : ℕ) → i < n → slice_get (range_with_len 0 n) i ≡ Some i
+number_there n i h =
+    let long : length (range_with_len 0 n) ≡ n = length-range_with_len 0 n in
+    let number : get_or (range_with_len 0 n) i 0 ≡ i = get_or-range_with_len 0 n i 0 h ∙ omega arith in
+    slice_get-get_or (range_with_len 0 n) i 0 (omega arith) ∙ ap (λ k. Some k) number
+
+pub row_line_there : (a : Attrs) (g : Grid) (width i : ℕ) (lines : List Line)
+    → lines ≡ map (λ p. one_line p width) (all_rows a g) → i < length g.rows
+    → slice_get lines i ≡ Some (row_line a g width i)
+row_line_there a g width i lines e h =
+    ap (λ ls. slice_get ls i) e ∙ slice_get-map (λ p. one_line p width) (all_rows a g) i
+    ∙ ap (option_map (λ p. one_line p width))
+    (slice_get-map (row_at a g) (range_with_len 0 (length g.rows)) i
+    ∙ ap (option_map (row_at a g)) (number_there (length g.rows) i h))
+
+-- ---- a unit of a document
+
+pub unit_there : (width : ℕ) (m : Moment) (us : List DocUnit) (xs : List UnitView) (n : ℕ) (u : DocUnit)
+    → AreShown width m us xs → slice_get us n ≡ Some u
+    → (x : UnitView) × ((slice_get xs n ≡ Some x)
+    × IsShown width (attributes_of (moment_before m us n).env)
+    (unit_value (outcome (tagged_of u.tagged) (moment_before m us n))) u.path x)
+unit_there width m [] xs n u h e = absurd cc
+unit_there width m (t ∷ us) [] n u h e = absurd h
+unit_there width m (t ∷ us) (x ∷ xs) zero u h e =
+    let same : t ≡ u = cc in
+    let Shown : DocUnit → Type 0 = λ w.
+    IsShown width (attributes_of m.env) (unit_value (outcome (tagged_of w.tagged) m)) w.path x in
+    (x, (refl, subst Shown same h.0))
+unit_there width m (t ∷ us) (x ∷ xs) (suc n) u h e =
+    unit_there width (behind m (outcome (tagged_of t.tagged) m)) us xs n u h.1 e
+
+pub page_row : (a : Attrs) (g : Grid) (width n i : ℕ) (path : List ℕ) (xs : List UnitView) (x : UnitView)
+    → slice_get xs n ≡ Some x → x.path ≡ Some path → x.lines ≡ map (λ p. one_line p width) (all_rows a g)
+    → i < length g.rows → HasRoom a g width i
+    → IsPageRow a g width i xs (length (lines_of (take n xs)) + i) path
+page_row a g width n i path xs x there has lines h room =
+    let many : length x.lines ≡ length (all_rows a g) =
+    ap length lines ∙ length-map (all_rows a g) (λ p. one_line p width) in
+    let rows = length-map-range_with_len (row_at a g) 0 (length g.rows) in
+    record {
+      within = h;
+      room = room;
+      unit = x;
+      number = i;
+      found = row_there xs n i x there (omega arith);
+      has_path = has;
+      line = row_line_there a g width i x.lines lines h;
+    }

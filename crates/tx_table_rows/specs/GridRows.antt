@@ -1,15 +1,17 @@
 -- What a table shows, row by row.
-use Rattle.std.specs.Prelude.{◌≡◌, ℕ, Bool, true, ◌&&◌, List, [], ◌∷◌, map, length, take, get_or, Some}
+use Rattle.std.specs.Prelude.{◌≡◌, ℕ, ◌<◌, Bool, true, ◌&&◌, List, [], ◌∷◌, map, length, take, get_or, Some}
 use Rattle.std.specs.List.{range_with_len}
 use Rattle.tx_origin.specs.Values.{WideValue}
 use Rattle.tx_table.specs.declared.grids.Grid.{Grid}
 use Rattle.tx_table.specs.declared.settings.Side.{Side}
-use Rattle.tx_table.specs.Columns.{column_widths}
+use Rattle.tx_table.specs.Columns.{column_widths, across}
 use Rattle.tx_table.specs.Grids.{grid_of}
 use Rattle.tx_items.specs.declared.attributes.Attrs.{Attrs}
 use Rattle.tx_items.specs.declared.drawing.Item.{Item}
 use Rattle.tx_items.specs.declared.drawing.Paragraph.{Paragraph}
 use Rattle.tx_items.specs.Drawing.{paragraph}
+use Rattle.tx_items.specs.Cells.{cells_across}
+use Rattle.tx_items.specs.RowPlaces.{FitsRow}
 use Rattle.tx_items.specs.Tables.{ShownRow, row_widths, row_items}
 use Rattle.tx_items.specs.Shows.{show, items_in, fits_cell}
 
@@ -69,6 +71,14 @@ row_at a g i = paragraph (row_items (columns_of a g) (sides_at g i) (cells_at a 
 -- a paragraph for each row, in order
 abbrev pub all_rows : Attrs → Grid → List Paragraph
 all_rows a g = map (row_at a g) (range_with_len 0 (length g.rows))
+
+-- Row i has a cell, a side for each cell, and for each cell a column that is no narrower. It takes the cells of all
+-- columns and of a gap of 2 between them.
+pub record IsFullRow (a : Attrs) (g : Grid) (i : ℕ) : Type 0 where
+  pub some : 0 < length (cells_at a g i)
+  pub sides : length (sides_at g i) ≡ length (cells_at a g i)
+  pub fits : FitsRow (columns_of a g) (sides_at g i) (cells_at a g i)
+  pub across : cells_across (row_at a g i).items ≡ across (columns_of a g)
 
 -- the value is a `tabular` with this grid, and its cells fit
 pub record IsTable (a : Attrs) (v : WideValue) (g : Grid) : Type 0 where

@@ -1,26 +1,27 @@
 // A law of the rows of tables.
-ghost use Rattle.std.specs.Prelude.{◌≡◌, ℕ, ◌<◌, true, List, [], ◌∷◌, ◌++◌, map, length, Some, option_and_then};
-ghost use Rattle.std.specs.Prelude.{slice_get, if◌then◌else◌, codes};
+ghost use Rattle.std.specs.Prelude.{◌≡◌, ℕ, ◌+◌, ◌<◌, true, List, ◌∷◌, ◌++◌, map, length, take, Some};
+ghost use Rattle.std.specs.Prelude.{option_and_then, slice_get, if◌then◌else◌, codes};
 ghost use Rattle.tx_origin.specs.Values.{WideValue};
 ghost use Rattle.tx_table.specs.declared.grids.Grid.{Grid};
-ghost use Rattle.tx_table.specs.Columns.{across};
 ghost use Rattle.tx_table.specs.Grids.{grid_of};
+ghost use Rattle.tx_doc.specs.declared.buffer.Buffer.{Buffer};
 ghost use Rattle.tx_items.specs.declared.attributes.Attrs.{Attrs};
 ghost use Rattle.tx_items.specs.declared.drawing.Item.{Item};
 ghost use Rattle.tx_items.specs.declared.drawing.Paragraph.{Paragraph};
-ghost use Rattle.tx_items.specs.Cells.{cells_across};
-ghost use Rattle.tx_items.specs.RowPlaces.{FitsRow, ColumnStands};
+ghost use Rattle.tx_items.specs.RowPlaces.{ColumnStands};
 ghost use Rattle.tx_items.specs.Shows.{show, listed, bad};
 ghost use Rattle.tx_layout.specs.declared.layout.Line.{Line};
 ghost use Rattle.tx_layout.specs.Frames.{line_frame};
 ghost use Rattle.tx_layout.specs.Segments.{HasWords};
 ghost use Rattle.tx_layout.specs.Shapes.{items_shown, IsShape};
 ghost use Rattle.tx_layout.specs.OneLine.{one_line};
-ghost use Rattle.tx_view_form.specs.Views.{UnitView, AreLines, IsShown, lines_of};
+ghost use Rattle.tx_view_form.specs.Views.{UnitView, AreLines, IsShown, WideView, IsView, lines_of};
 ghost use Rattle.tx_view_form.specs.Cells.{drawn_in, drawn_at};
 ghost use Rattle.tx_view_form.specs.Positions.{Mark, mark_of, start_of, position_in};
-ghost use Rattle.tx_table_rows.specs.GridRows.{rows_fit, columns_of, cells_at, sides_at, row_at, all_rows, IsTable};
+ghost use Rattle.tx_table_rows.specs.GridRows.{rows_fit, columns_of, cells_at, sides_at, row_at, all_rows};
+ghost use Rattle.tx_table_rows.specs.GridRows.{IsFullRow, IsTable};
 ghost use Rattle.tx_table_rows.specs.RowLines.{HasRoom, row_line, IsLineBetween, IsPageRow, CellCovers};
+ghost use Rattle.tx_table_rows.specs.TableUnits.{IsTableUnit};
 
 use tx_items::row_law;
 use tx_view_form::table_place_law;
@@ -35,14 +36,10 @@ pub fn shown_rows_law()
         ≡ (if rows_fit a g.rows then listed (all_rows a g) else (bad a (codes "tabular")).form) }
     ensures rows { (a : Attrs) (v : WideValue) (g : Grid) (width : ℕ) (path : List ℕ) (x : UnitView) → IsTable a v g →
         IsShown width a v (Some path) x → x.paragraphs ≡ all_rows a g }
-    ensures sides { (a : Attrs) (v : WideValue) (g : Grid) (i : ℕ) → IsTable a v g → i < length g.rows →
-        (length (sides_at g i) ≡ length (cells_at a g i)) × (0 < length (cells_at a g i))
-        × FitsRow (columns_of a g) (sides_at g i) (cells_at a g i) }
+    ensures row { (a : Attrs) (v : WideValue) (g : Grid) (i : ℕ) → IsTable a v g → i < length g.rows → IsFullRow a g i }
     ensures cells { (a : Attrs) (v : WideValue) (g : Grid) (i j : ℕ) (cell : List Item) → IsTable a v g →
         i < length g.rows → slice_get (cells_at a g i) j ≡ Some cell →
         ColumnStands (columns_of a g) (sides_at g i) (cells_at a g i) j cell }
-    ensures row { (a : Attrs) (v : WideValue) (g : Grid) (i : ℕ) → IsTable a v g → i < length g.rows →
-        cells_across (row_at a g i).items ≡ across (columns_of a g) }
     ensures lines { (a : Attrs) (v : WideValue) (g : Grid) (width i : ℕ) (before after : List Paragraph)
         (lines : List Line) → IsTable a v g → i < length g.rows → HasRoom a g width i →
         AreLines width (before ++ row_at a g i ∷ after) lines →
@@ -53,6 +50,10 @@ pub fn shown_rows_law()
     ensures wide { (a : Attrs) (v : WideValue) (g : Grid) (width i : ℕ) (lines : List Line) → IsTable a v g →
         i < length g.rows → IsShape (row_at a g i) width lines →
         HasWords (line_frame (row_at a g i) width) true (items_shown (row_at a g i) width) lines }
+    ensures document { (buffers : List Buffer) (width height : ℕ) (w : WideView) (n i : ℕ) (path : List ℕ) (a : Attrs)
+        (g : Grid) → IsView buffers width height w → IsTableUnit buffers n path a g → i < length g.rows →
+        ((k : ℕ) → k < length g.rows → HasRoom a g width k) →
+        IsPageRow a g width i w.units (length (lines_of (take n w.units)) + i) path }
     ensures drawn { (a : Attrs) (v : WideValue) (g : Grid) (width i : ℕ) (xs : List UnitView) (r : ℕ) (path : List ℕ)
         (j : ℕ) (item : Item) (c : ℕ) → IsTable a v g → IsPageRow a g width i xs r path →
         CellCovers a g width i j item c →

@@ -1,0 +1,27 @@
+-- A unit of a document that is a table.
+use Rattle.std.specs.Prelude.{◌≡◌, ℕ, zero, suc, List, [], ◌∷◌, Some, slice_get}
+use Rattle.tx_origin.specs.TaggedTrees.{tagged_of}
+use Rattle.tx_table.specs.declared.grids.Grid.{Grid}
+use Rattle.tx_doc.specs.declared.buffer.Buffer.{Buffer}
+use Rattle.tx_units.specs.declared.kinds.Unit.{Unit as DocUnit}
+use Rattle.tx_units.specs.Units.{units}
+use Rattle.tx_items.specs.declared.attributes.Attrs.{Attrs}
+use Rattle.tx_view_form.specs.Outcomes.{Moment, beginning, outcome, behind, unit_value}
+use Rattle.tx_view_form.specs.Started.{attributes_of}
+use Rattle.tx_table_rows.specs.GridRows.{IsTable}
+
+-- the moment before unit n, where this is the one before the first
+abbrev pub moment_before : Moment → List DocUnit → ℕ → Moment
+moment_before m us zero = m
+moment_before m [] (suc n) = m
+moment_before m (u ∷ us) (suc n) = moment_before (behind m (outcome (tagged_of u.tagged) m)) us n
+
+-- unit n of the buffers has this path, and its value is a table with this grid, where these are the attributes before it
+pub record IsTableUnit (buffers : List Buffer) (n : ℕ) (path : List ℕ) (a : Attrs) (g : Grid) : Type 0 where
+  pub unit : DocUnit
+  pub moment : Moment
+  pub there : slice_get (units buffers) n ≡ Some unit
+  pub has_path : unit.path ≡ Some path
+  pub before : moment ≡ moment_before beginning (units buffers) n
+  pub attrs : a ≡ attributes_of moment.env
+  pub table : IsTable a (unit_value (outcome (tagged_of unit.tagged) moment)) g
