@@ -1,11 +1,11 @@
 -- The lines of the rows of a table.
 use Rattle.std.proofs.Common.{◌≡◌, ℕ, zero, suc, ◌+◌, ◌-◌, ◌<◌, ◌≤◌, min, Bool, true, false, List, [], ◌∷◌, ◌++◌}
-use Rattle.std.proofs.Common.{map, length, drop, get_or, Option, Some, None, refl, sym, ap, ap₂, ◌∙◌, subst, arith}
+use Rattle.std.proofs.Common.{map, length, take, drop, get_or, Option, Some, None, refl, sym, ap, ap₂, ◌∙◌, subst, arith}
 use Rattle.std.proofs.Common.{cond, append_assoc}
 use Rattle.std.specs.Prelude.{All, codes}
 use Rattle.std.specs.List.{range_with_len, AllByRecursion}
 use Rattle.std.proofs.lemmas.List.{length-map}
-use Rattle.std.proofs.lemmas.List.FromFn.{length-range_with_len}
+use Rattle.std.proofs.lemmas.List.FromFn.{length-range_with_len, take-map-range_with_len, length-map-range_with_len}
 use Rattle.std.proofs.lemmas.List.Elements.{All-nil, All-cons, All-head, All-tail, All-append, All-map}
 use Rattle.tx_origin.specs.Values.{WideValue}
 use Rattle.tx_table.specs.declared.grids.Grid.{Grid}
@@ -247,3 +247,19 @@ lines_alone takes one a v g width path x table room shown =
     one (row_at a g i) width (columns_of a g) (sides_at g i) (cells_at a g i) own
     (is_row takes a v g width i table h (room i h)) shape)
     (subst (λ ps. AreLines width ps x.lines) (unit_rows a v g width path x table shown) shown.lines)
+
+-- the lines of the first rows, where these have room
+pub first_lines : TakesColumns → AreOneLine → (a : Attrs) (v : WideValue) (g : Grid) (width i : ℕ) (lines : List Line)
+    → IsTable a v g → i < length g.rows → AreLines width (take i (all_rows a g)) lines
+    → ((k : ℕ) → k < i → HasRoom a g width k) → length lines ≡ i
+first_lines takes one a v g width i lines table h are room =
+    let rows : List Paragraph = map (row_at a g) (range_with_len 0 i) in
+    let same : take i (all_rows a g) ≡ rows =
+    take-map-range_with_len (row_at a g) 0 (length g.rows) i (omega arith) in
+    let each : AllByRecursion (OnlyLine width) rows =
+    each_in_range (OnlyLine width) (row_at a g) 0 i
+    (λ k less own shape.
+    one (row_at a g k) width (columns_of a g) (sides_at g k) (cells_at a g k) own
+    (is_row takes a v g width k table (omega arith) (room k (omega arith))) shape) in
+    ap length (only_lines width rows lines each (subst (λ ps. AreLines width ps lines) same are))
+    ∙ length-map rows (λ p. one_line p width) ∙ length-map-range_with_len (row_at a g) 0 i

@@ -4,9 +4,8 @@ use Rattle.std.proofs.Common.{map, length, take, drop, get_or, Option, Some, Non
 use Rattle.std.specs.Prelude.{nat_lt, slice_get, option_and_then}
 use Rattle.std.specs.List.{range_with_len}
 use Rattle.std.specs.Option.{option_map}
-use Rattle.std.proofs.lemmas.Option.{slice_get-get_or, slice_get-map}
-use Rattle.std.proofs.lemmas.List.{length-append, length-map}
-use Rattle.std.proofs.lemmas.List.FromFn.{length-range_with_len, get_or-range_with_len, length-map-range_with_len}
+use Rattle.std.proofs.lemmas.List.{length-append, take-append-drop, drop_more}
+use Rattle.std.proofs.lemmas.List.FromFn.{length-map-range_with_len, get_or-map-range_with_len}
 use Rattle.std.proofs.lemmas.List.Sums.{sum_by-cons, sum_by-append}
 use Rattle.std.proofs.lemmas.List.Concat.{flat_map-cons}
 use Rattle.tx_origin.specs.RelativePlaces.{BasedPlace}
@@ -150,20 +149,22 @@ row_there (y ∷ ys) (suc n) i x e h =
     (not_below (length y.lines + rest) (length y.lines) (omega arith))
     ∙ ap (row_in ys) behind ∙ row_there ys n i x e h
 
-number_there : (n i : ℕ) → i < n → slice_get (range_with_len 0 n) i ≡ Some i
-number_there n i h =
-    let long : length (range_with_len 0 n) ≡ n = length-range_with_len 0 n in
-    let number : get_or (range_with_len 0 n) i 0 ≡ i = get_or-range_with_len 0 n i 0 h ∙ omega arith in
-    slice_get-get_or (range_with_len 0 n) i 0 (omega arith) ∙ ap (λ k. Some k) number
+got_between : (above below : List Line) (line : Line) → slice_get (above ++ line ∷ below) (length above) ≡ Some line
+got_between above below line =
+    let none : length above - length above ≡ 0 = omega arith in
+    in_rest above (line ∷ below) (length above) (omega arith) ∙ ap (slice_get (line ∷ below)) none
 
-pub row_line_there : (a : Attrs) (g : Grid) (width i : ℕ) (lines : List Line)
-    → lines ≡ map (λ p. one_line p width) (all_rows a g) → i < length g.rows
-    → slice_get lines i ≡ Some (row_line a g width i)
-row_line_there a g width i lines e h =
-    ap (λ ls. slice_get ls i) e ∙ slice_get-map (λ p. one_line p width) (all_rows a g) i
-    ∙ ap (option_map (λ p. one_line p width))
-    (slice_get-map (row_at a g) (range_with_len 0 (length g.rows)) i
-    ∙ ap (option_map (row_at a g)) (number_there (length g.rows) i h))
+-- the rows before one, this one, and those after it
+pub rows_split : (a : Attrs) (g : Grid) (i : ℕ) → i < length g.rows
+    → all_rows a g ≡ take i (all_rows a g) ++ row_at a g i ∷ drop (i + 1) (all_rows a g)
+rows_split a g i h =
+    let rows : List Paragraph = all_rows a g in
+    let many = length-map-range_with_len (row_at a g) 0 (length g.rows) in
+    let here : get_or rows i (row_at a g i) ≡ row_at a g i =
+    get_or-map-range_with_len (row_at a g) 0 (length g.rows) i i (row_at a g i) h (omega arith) in
+    sym (take-append-drop i rows)
+    ∙ ap (λ ps. take i rows ++ ps)
+    (drop_more rows i (row_at a g i) (omega arith) ∙ ap (λ p. p ∷ drop (i + 1) rows) here)
 
 -- ---- a unit of a document
 
@@ -183,19 +184,19 @@ unit_there width m (t ∷ us) (x ∷ xs) (suc n) u h e =
     unit_there width (behind m (outcome (tagged_of t.tagged) m)) us xs n u h.1 e
 
 pub page_row : (a : Attrs) (g : Grid) (width n i : ℕ) (path : List ℕ) (xs : List UnitView) (x : UnitView)
-    → slice_get xs n ≡ Some x → x.path ≡ Some path → x.lines ≡ map (λ p. one_line p width) (all_rows a g)
-    → i < length g.rows → HasRoom a g width i
-    → IsPageRow a g width i xs (length (lines_of (take n xs)) + i) path
-page_row a g width n i path xs x there has lines h room =
-    let many : length x.lines ≡ length (all_rows a g) =
-    ap length lines ∙ length-map (all_rows a g) (λ p. one_line p width) in
-    let rows = length-map-range_with_len (row_at a g) 0 (length g.rows) in
+    (above below : List Line) → slice_get xs n ≡ Some x → x.path ≡ Some path
+    → x.lines ≡ above ++ row_line a g width i ∷ below → i < length g.rows → HasRoom a g width i
+    → IsPageRow a g width i xs (length (lines_of (take n xs)) + length above) path
+page_row a g width n i path xs x above below there has lines h room =
+    let line : Line = row_line a g width i in
+    let many = ap length lines in
+    let more = length-append above (line ∷ below) in
     record {
       within = h;
       room = room;
       unit = x;
-      number = i;
-      found = row_there xs n i x there (omega arith);
+      number = length above;
+      found = row_there xs n (length above) x there (omega arith);
       has_path = has;
-      line = row_line_there a g width i x.lines lines h;
+      line = ap (λ ls. slice_get ls (length above)) lines ∙ got_between above below line;
     }

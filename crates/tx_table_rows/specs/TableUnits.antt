@@ -1,14 +1,17 @@
 -- A unit of a document that is a table.
-use Rattle.std.specs.Prelude.{◌≡◌, ℕ, zero, suc, List, [], ◌∷◌, Some, slice_get}
+use Rattle.std.specs.Prelude.{◌≡◌, ℕ, zero, suc, ◌+◌, ◌<◌, List, [], ◌∷◌, length, take, Some, slice_get}
 use Rattle.tx_origin.specs.TaggedTrees.{tagged_of}
 use Rattle.tx_table.specs.declared.grids.Grid.{Grid}
 use Rattle.tx_doc.specs.declared.buffer.Buffer.{Buffer}
 use Rattle.tx_units.specs.declared.kinds.Unit.{Unit as DocUnit}
 use Rattle.tx_units.specs.Units.{units}
 use Rattle.tx_items.specs.declared.attributes.Attrs.{Attrs}
+use Rattle.tx_layout.specs.declared.layout.Line.{Line}
 use Rattle.tx_view_form.specs.Outcomes.{Moment, beginning, outcome, behind, unit_value}
 use Rattle.tx_view_form.specs.Started.{attributes_of}
-use Rattle.tx_table_rows.specs.GridRows.{IsTable}
+use Rattle.tx_view_form.specs.Views.{UnitView, AreLines, lines_of}
+use Rattle.tx_table_rows.specs.GridRows.{all_rows, IsTable}
+use Rattle.tx_table_rows.specs.RowLines.{HasRoom, IsPageRow}
 
 -- the moment before unit n, where this is the one before the first
 abbrev pub moment_before : Moment → List DocUnit → ℕ → Moment
@@ -25,3 +28,12 @@ pub record IsTableUnit (buffers : List Buffer) (n : ℕ) (path : List ℕ) (a : 
   pub before : moment ≡ moment_before beginning (units buffers) n
   pub attrs : a ≡ attributes_of moment.env
   pub table : IsTable a (unit_value (outcome (tagged_of unit.tagged) moment)) g
+
+-- Row i of the table of unit n is in one line, which is the row of all that comes after the lines of the units before and
+-- those of the rows before in the table.
+pub record StandsInUnit (a : Attrs) (g : Grid) (width n i : ℕ) (xs : List UnitView) (path : List ℕ) : Type 0 where
+  pub above : List Line
+  pub before : AreLines width (take i (all_rows a g)) above
+  -- rows that have room are a line each
+  pub each_one : ((k : ℕ) → k < i → HasRoom a g width k) → length above ≡ i
+  pub row : IsPageRow a g width i xs (length (lines_of (take n xs)) + length above) path

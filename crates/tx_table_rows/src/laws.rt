@@ -1,5 +1,5 @@
 // A law of the rows of tables.
-ghost use Rattle.std.specs.Prelude.{◌≡◌, ℕ, ◌+◌, ◌<◌, true, List, ◌∷◌, ◌++◌, map, length, take, Some};
+ghost use Rattle.std.specs.Prelude.{◌≡◌, ℕ, ◌<◌, true, List, ◌∷◌, ◌++◌, map, length, Some};
 ghost use Rattle.std.specs.Prelude.{option_and_then, slice_get, if◌then◌else◌, codes};
 ghost use Rattle.tx_origin.specs.Values.{WideValue};
 ghost use Rattle.tx_table.specs.declared.grids.Grid.{Grid};
@@ -21,7 +21,7 @@ ghost use Rattle.tx_view_form.specs.Positions.{Mark, mark_of, start_of, position
 ghost use Rattle.tx_table_rows.specs.GridRows.{rows_fit, columns_of, cells_at, sides_at, row_at, all_rows};
 ghost use Rattle.tx_table_rows.specs.GridRows.{IsFullRow, IsTable};
 ghost use Rattle.tx_table_rows.specs.RowLines.{HasRoom, row_line, IsLineBetween, IsPageRow, CellCovers};
-ghost use Rattle.tx_table_rows.specs.TableUnits.{IsTableUnit};
+ghost use Rattle.tx_table_rows.specs.TableUnits.{IsTableUnit, StandsInUnit};
 
 use tx_items::row_law;
 use tx_view_form::table_place_law;
@@ -52,8 +52,7 @@ pub fn shown_rows_law()
         HasWords (line_frame (row_at a g i) width) true (items_shown (row_at a g i) width) lines }
     ensures document { (buffers : List Buffer) (width height : ℕ) (w : WideView) (n i : ℕ) (path : List ℕ) (a : Attrs)
         (g : Grid) → IsView buffers width height w → IsTableUnit buffers n path a g → i < length g.rows →
-        ((k : ℕ) → k < length g.rows → HasRoom a g width k) →
-        IsPageRow a g width i w.units (length (lines_of (take n w.units)) + i) path }
+        HasRoom a g width i → StandsInUnit a g width n i w.units path }
     ensures drawn { (a : Attrs) (v : WideValue) (g : Grid) (width i : ℕ) (xs : List UnitView) (r : ℕ) (path : List ℕ)
         (j : ℕ) (item : Item) (c : ℕ) → IsTable a v g → IsPageRow a g width i xs r path →
         CellCovers a g width i j item c →

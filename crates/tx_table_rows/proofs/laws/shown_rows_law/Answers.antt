@@ -1,10 +1,11 @@
-use Rattle.std.proofs.Common.{◌≡◌, ℕ, ◌+◌, ◌-◌, ◌<◌, ◌≤◌, ◌∷◌, ◌++◌, take, drop, get_or, ap, ◌∙◌, refl, sym, subst, arith}
-use Rattle.std.specs.Prelude.{option_and_then, Some}
+use Rattle.std.proofs.Common.{◌≡◌, ℕ, ◌+◌, ◌-◌, ◌<◌, ◌≤◌, List, ◌∷◌, ◌++◌, Option, Some, take, drop, get_or, ap, ◌∙◌, refl, sym, subst, arith}
+use Rattle.std.specs.Prelude.{option_and_then}
 use Rattle.tx_table.specs.declared.settings.Side.TheVariants.{Left}
 use Rattle.tx_table.specs.Columns.{across, left_pad}
 use Rattle.tx_origin.specs.TaggedTrees.{tagged_of}
 use Rattle.tx_origin.specs.Values.{WideValue}
 use Rattle.tx_units.specs.Units.{units}
+use Rattle.tx_items.specs.declared.attributes.Attrs.{Attrs}
 use Rattle.tx_items.specs.declared.drawing.Paragraph.{Paragraph}
 use Rattle.tx_items.specs.Cells.{cells_across}
 use Rattle.tx_items.specs.RowPlaces.{column_start}
@@ -12,13 +13,14 @@ use Rattle.tx_view_form.specs.Cells.{drawn_at}
 use Rattle.tx_view_form.specs.Outcomes.{Moment, beginning, outcome, unit_value}
 use Rattle.tx_view_form.specs.Positions.{start_of}
 use Rattle.tx_view_form.specs.Started.{attributes_of}
-use Rattle.tx_view_form.specs.Views.{AreLines, IsShown}
-use Rattle.tx_table_rows.specs.GridRows.{columns_of, sides_at, cells_at, row_at}
-use Rattle.tx_table_rows.specs.RowLines.{row_line}
+use Rattle.tx_view_form.specs.Views.{UnitView, IsShown}
+use Rattle.tx_table_rows.specs.GridRows.{columns_of, sides_at, cells_at, row_at, all_rows}
+use Rattle.tx_table_rows.specs.RowLines.{row_line, IsLineBetween}
 use Rattle.tx_table_rows.proofs.Showing.{table_shown}
 use Rattle.tx_table_rows.proofs.Fitting.{row_full}
-use Rattle.tx_table_rows.proofs.Filling.{is_row, line_between, lines_alone, unit_rows, row_filled}
-use Rattle.tx_table_rows.proofs.Standing.{line_there, within_page, in_row, position_there, page_row, unit_there}
+use Rattle.tx_table_rows.proofs.Filling.{is_row, line_between, lines_alone, first_lines, unit_rows, row_filled}
+use Rattle.tx_table_rows.proofs.Standing.{line_there, within_page, in_row, position_there}
+use Rattle.tx_table_rows.proofs.Standing.{rows_split, page_row, unit_there}
 use Rattle.tx_table_rows.proofs.laws.shown_rows_law.Goals as goal
 
 pub returns-clause-shown : goal.returns-clause-shown
@@ -50,20 +52,32 @@ pub returns-clause-wide : goal.returns-clause-wide
 returns-clause-wide c = row_filled c.row_law.ensures.across
 
 pub returns-clause-document : goal.returns-clause-document
-returns-clause-document c = λ buffers width height w n i path a g view table h room.
-    let v : WideValue = unit_value (outcome (tagged_of table.unit.tagged) table.moment) in
-    let found = unit_there width beginning (units buffers) w.units n table.unit view.shown table.there in
-    let shown : IsShown width a v (Some path) found.0 =
-    subst (λ p. IsShown width a v p found.0) table.has_path
-    (subst (λ b. IsShown width b v table.unit.path found.0) (sym table.attrs)
-    (subst
-    (λ (m : Moment).
-    IsShown width (attributes_of m.env) (unit_value (outcome (tagged_of table.unit.tagged) m)) table.unit.path found.0)
-    (sym table.before) found.1.1)) in
-    page_row a g width n i path w.units found.0 found.1.0 shown.path_is
-    (lines_alone c.row_law.ensures.across c.table_place_law.ensures.line a v g width path found.0 table.table room
-    shown)
-    h (room i h)
+returns-clause-document c = λ buffers width height w n i path a g view unit h room.
+    let Shown : Moment → Attrs → Option (List ℕ) → UnitView → Type 0 = λ m b p x.
+    IsShown width b (unit_value (outcome (tagged_of unit.unit.tagged) m)) p x in
+    let v : WideValue = unit_value (outcome (tagged_of unit.unit.tagged) unit.moment) in
+    let found = unit_there width beginning (units buffers) w.units n unit.unit view.shown unit.there in
+    let x : UnitView = found.0 in
+    let shown : Shown unit.moment a (Some path) x =
+    subst (λ p. Shown unit.moment a p x) unit.has_path
+    (subst (λ b. Shown unit.moment b unit.unit.path x) (sym unit.attrs)
+    (subst (λ m. Shown m (attributes_of m.env) unit.unit.path x) (sym unit.before) found.1.1)) in
+    let rows : List Paragraph = all_rows a g in
+    let split : x.paragraphs ≡ take i rows ++ row_at a g i ∷ drop (i + 1) rows =
+    unit_rows a v g width path x unit.table shown ∙ rows_split a g i h in
+    let between : IsLineBetween width (take i rows) (drop (i + 1) rows) (row_line a g width i) x.lines =
+    line_between width (take i rows) (drop (i + 1) rows) (row_at a g i) x.paragraphs x.lines
+    (λ own shape.
+    c.table_place_law.ensures.line (row_at a g i) width (columns_of a g) (sides_at g i) (cells_at a g i) own
+    (is_row c.row_law.ensures.across a v g width i unit.table h room) shape)
+    shown.lines split in
+    record {
+      above = between.above;
+      before = between.first;
+      each_one = first_lines c.row_law.ensures.across c.table_place_law.ensures.line a v g width i between.above unit.table h
+          between.first;
+      row = page_row a g width n i path w.units x between.above between.below found.1.0 shown.path_is between.are h room;
+    }
 
 pub returns-clause-drawn : goal.returns-clause-drawn
 returns-clause-drawn c = λ a v g width i xs r path j item col table row covers.
