@@ -1,12 +1,12 @@
 -- The lines of the rows of a table.
-use Rattle.std.proofs.Common.{◌≡◌, ℕ, zero, suc, ◌+◌, ◌-◌, ◌<◌, ◌≤◌, min, Bool, true, false, List, [], ◌∷◌, ◌++◌}
-use Rattle.std.proofs.Common.{map, length, take, drop, get_or, Option, Some, None, refl, sym, ap, ap₂, ◌∙◌, subst, arith}
+use Rattle.std.proofs.Common.{◌≡◌, ℕ, zero, suc, ◌+◌, ◌-◌, ◌<◌, min, Bool, true, false, List, [], ◌∷◌, ◌++◌}
+use Rattle.std.proofs.Common.{map, length, take, Some, refl, sym, ap, ap₂, ◌∙◌, subst, arith}
 use Rattle.std.proofs.Common.{cond, append_assoc}
 use Rattle.std.specs.Prelude.{All, codes}
 use Rattle.std.specs.List.{range_with_len, AllByRecursion}
 use Rattle.std.proofs.lemmas.List.{length-map}
 use Rattle.std.proofs.lemmas.List.FromFn.{length-range_with_len, take-map-range_with_len, length-map-range_with_len}
-use Rattle.std.proofs.lemmas.List.Elements.{All-nil, All-cons, All-head, All-tail, All-append, All-map}
+use Rattle.std.proofs.lemmas.List.Elements.{All-nil, All-cons, All-head, All-tail, All-append}
 use Rattle.tx_origin.specs.Values.{WideValue}
 use Rattle.tx_table.specs.declared.grids.Grid.{Grid}
 use Rattle.tx_table.specs.declared.settings.Side.{Side}
@@ -31,15 +31,15 @@ use Rattle.tx_layout.specs.Shapes.{Whole, is_break, or_empty, items_shown, IsSha
 use Rattle.tx_layout.specs.OneLine.{one_line}
 use Rattle.tx_view_form.specs.Views.{UnitView, AreLines, no_lines, lines_then, IsShown}
 use Rattle.tx_view_form.specs.TableCells.{IsTableRow}
-use Rattle.tx_table_rows.specs.GridRows.{rows_fit, columns_of, sides_at, cells_at, row_at, all_rows, IsTable}
-use Rattle.tx_table_rows.specs.RowLines.{HasRoom, row_line, IsLineBetween}
+use Rattle.tx_table_rows.specs.GridRows.{rows_fit, columns_of, sides_at, cells_at, row_shown, all_rows, IsTable}
+use Rattle.tx_table_rows.specs.RowLines.{RowHasRoom, IsLineBetween}
 use Rattle.tx_table_rows.proofs.Showing.{table_shown}
 use Rattle.tx_table_rows.proofs.Fitting.{has_row, TakesColumns, row_full, row_whole}
 
 -- ---- a row that has room
 
 pub is_row : TakesColumns → (a : Attrs) (v : WideValue) (g : Grid) (width i : ℕ) → IsTable a v g → i < length g.rows
-    → HasRoom a g width i → IsTableRow (row_at a g i) width (columns_of a g) (sides_at g i) (cells_at a g i)
+    → RowHasRoom a g width i → IsTableRow (row_shown a g i) width (columns_of a g) (sides_at g i) (cells_at a g i)
 is_row takes a v g width i table h room =
     let has = row_full takes a v g i table h in
     record { made = refl; some = has.some; fits = has.fits; whole = row_whole a v g i table h; narrow = room }
@@ -93,11 +93,11 @@ each_in_range P f k (suc n) h =
     (h k (omega arith), each_in_range P f (k + 1) n (λ i less. h i (omega arith)))
 
 pub only_rows : (a : Attrs) (g : Grid) (width : ℕ) (lines : List Line)
-    → ((i : ℕ) → i < length g.rows → OnlyLine width (row_at a g i)) → AreLines width (all_rows a g) lines
+    → ((i : ℕ) → i < length g.rows → OnlyLine width (row_shown a g i)) → AreLines width (all_rows a g) lines
     → lines ≡ map (λ p. one_line p width) (all_rows a g)
 only_rows a g width lines only h =
     only_lines width (all_rows a g) lines
-    (each_in_range (OnlyLine width) (row_at a g) 0 (length g.rows) (λ i less. only i (omega arith))) h
+    (each_in_range (OnlyLine width) (row_shown a g) 0 (length g.rows) (λ i less. only i (omega arith))) h
 
 some_paragraphs : (f : Form) (end : Attrs) (ps : List Paragraph) → f ≡ listed ps → 0 < length ps
     → unit_paragraphs f end ≡ ps
@@ -107,10 +107,11 @@ some_paragraphs f end (p ∷ ps) e h = ap (λ x. unit_paragraphs x end) e
 pub unit_rows : (a : Attrs) (v : WideValue) (g : Grid) (width : ℕ) (path : List ℕ) (x : UnitView) → IsTable a v g
     → IsShown width a v (Some path) x → x.paragraphs ≡ all_rows a g
 unit_rows a v g width path x table shown =
-    let form : (show a v).form ≡ listed (all_rows a g) = pick (rows_fit a g.rows) table.fits (table_shown a v g table.grid) in
+    let form : (show a v).form ≡ listed (all_rows a g) =
+    pick (rows_fit a g.rows) table.fits (table_shown a v g table.grid) in
     let rows = has_row v g table.grid in
     let long : length (all_rows a g) ≡ length (range_with_len 0 (length g.rows)) =
-    length-map (range_with_len 0 (length g.rows)) (row_at a g) in
+    length-map (range_with_len 0 (length g.rows)) (row_shown a g) in
     let many : length (range_with_len 0 (length g.rows)) ≡ length g.rows =
     length-range_with_len 0 (length g.rows) in
     shown.paragraphs ∙ some_paragraphs (show a v).form (show a v).after (all_rows a g) form (omega arith)
@@ -217,17 +218,17 @@ row_words p width (n ∷ ns) (s ∷ ss) (x ∷ xs) lines is fits some whole shap
     let items : p.items ≡ Gap pad ∷ more = is in
     let first : items_shown p width ≡ Gap (min pad least) ∷ map (capped_item least) more =
     ap (map (capped_item least)) items in
-    one_segment (line_frame p width) true (Gap (min pad least)) (map (capped_item least) more) (items_shown p width) lines
-    refl first
+    let rest : List Item = map (capped_item least) more in
+    one_segment (line_frame p width) true (Gap (min pad least)) rest (items_shown p width) lines refl first
     (all_capped least p.items
     (subst (All Whole) (sym is) (from_whole 0 (n ∷ ns) (s ∷ ss) (x ∷ xs) whole))) shape
 
 pub row_filled : TakesColumns → (a : Attrs) (v : WideValue) (g : Grid) (width i : ℕ) (lines : List Line) → IsTable a v g
-    → i < length g.rows → IsShape (row_at a g i) width lines
-    → HasWords (line_frame (row_at a g i) width) true (items_shown (row_at a g i) width) lines
+    → i < length g.rows → IsShape (row_shown a g i) width lines
+    → HasWords (line_frame (row_shown a g i) width) true (items_shown (row_shown a g i) width) lines
 row_filled takes a v g width i lines table h shape =
     let has = row_full takes a v g i table h in
-    row_words (row_at a g i) width (columns_of a g) (sides_at g i) (cells_at a g i) lines refl has.fits has.some
+    row_words (row_shown a g i) width (columns_of a g) (sides_at g i) (cells_at a g i) lines refl has.fits has.some
     (row_whole a v g i table h) shape
 
 -- ---- a unit of a table all of whose rows have room
@@ -239,27 +240,27 @@ AreOneLine =
     → IsTableRow p width columns sides cells → IsShape p width lines → lines ≡ one_line p width ∷ []
 
 pub lines_alone : TakesColumns → AreOneLine → (a : Attrs) (v : WideValue) (g : Grid) (width : ℕ) (path : List ℕ)
-    (x : UnitView) → IsTable a v g → ((i : ℕ) → i < length g.rows → HasRoom a g width i)
+    (x : UnitView) → IsTable a v g → ((i : ℕ) → i < length g.rows → RowHasRoom a g width i)
     → IsShown width a v (Some path) x → x.lines ≡ map (λ p. one_line p width) (all_rows a g)
 lines_alone takes one a v g width path x table room shown =
     only_rows a g width x.lines
     (λ i h own shape.
-    one (row_at a g i) width (columns_of a g) (sides_at g i) (cells_at a g i) own
+    one (row_shown a g i) width (columns_of a g) (sides_at g i) (cells_at a g i) own
     (is_row takes a v g width i table h (room i h)) shape)
     (subst (λ ps. AreLines width ps x.lines) (unit_rows a v g width path x table shown) shown.lines)
 
 -- the lines of the first rows, where these have room
 pub first_lines : TakesColumns → AreOneLine → (a : Attrs) (v : WideValue) (g : Grid) (width i : ℕ) (lines : List Line)
     → IsTable a v g → i < length g.rows → AreLines width (take i (all_rows a g)) lines
-    → ((k : ℕ) → k < i → HasRoom a g width k) → length lines ≡ i
+    → ((k : ℕ) → k < i → RowHasRoom a g width k) → length lines ≡ i
 first_lines takes one a v g width i lines table h are room =
-    let rows : List Paragraph = map (row_at a g) (range_with_len 0 i) in
+    let rows : List Paragraph = map (row_shown a g) (range_with_len 0 i) in
     let same : take i (all_rows a g) ≡ rows =
-    take-map-range_with_len (row_at a g) 0 (length g.rows) i (omega arith) in
+    take-map-range_with_len (row_shown a g) 0 (length g.rows) i (omega arith) in
     let each : AllByRecursion (OnlyLine width) rows =
-    each_in_range (OnlyLine width) (row_at a g) 0 i
+    each_in_range (OnlyLine width) (row_shown a g) 0 i
     (λ k less own shape.
-    one (row_at a g k) width (columns_of a g) (sides_at g k) (cells_at a g k) own
+    one (row_shown a g k) width (columns_of a g) (sides_at g k) (cells_at a g k) own
     (is_row takes a v g width k table (omega arith) (room k (omega arith))) shape) in
     ap length (only_lines width rows lines each (subst (λ ps. AreLines width ps lines) same are))
-    ∙ length-map rows (λ p. one_line p width) ∙ length-map-range_with_len (row_at a g) 0 i
+    ∙ length-map rows (λ p. one_line p width) ∙ length-map-range_with_len (row_shown a g) 0 i

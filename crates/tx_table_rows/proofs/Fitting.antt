@@ -1,6 +1,6 @@
 -- Each cell of a row has a side and a column, and no cell is wider than its column or ends a line.
-use Rattle.std.proofs.Common.{◌≡◌, ℕ, zero, suc, ◌+◌, ◌<◌, ◌≤◌, max, Bool, true, false, not, ◌&&◌, ◌||◌, List, [], ◌∷◌}
-use Rattle.std.proofs.Common.{map, length, take, get_or, Option, Some, None, refl, sym, ap, ◌∙◌, subst, arith}
+use Rattle.std.proofs.Common.{◌≡◌, ℕ, zero, suc, ◌<◌, Bool, true, false, not, ◌&&◌, ◌||◌, List, [], ◌∷◌}
+use Rattle.std.proofs.Common.{map, length, take, get_or, Option, Some, None, refl, sym, ◌∙◌, subst, arith}
 use Rattle.std.specs.Prelude.{All, option_and_then, codes, if◌then◌else◌}
 use Rattle.std.specs.List.{list_any}
 use Rattle.std.specs.Option.{option_map}
@@ -22,7 +22,7 @@ use Rattle.tx_items.specs.RowPlaces.{FitsRow}
 use Rattle.tx_items.specs.Shows.{Form, inline, listed, run_items, items_in, fits_cell, show}
 use Rattle.tx_items.proofs.Below.{AreSome, grid_holds}
 use Rattle.tx_layout.specs.Shapes.{is_break, Whole}
-use Rattle.tx_table_rows.specs.GridRows.{shown_cells, cells_fit, after_cells, shown_rows, rows_fit, after_rows}
+use Rattle.tx_table_rows.specs.GridRows.{shown_cells, row_fits, after_cells, grid_rows, rows_fit, after_rows}
 use Rattle.tx_table_rows.specs.GridRows.{columns_of, sides_at, cells_at, IsFullRow, IsTable}
 use Rattle.tx_table_rows.proofs.Showing.{cells_long}
 
@@ -82,7 +82,7 @@ has_row v g e =
     let p = then_some format_grid (only_part (codes "tabular") v) g e in
     format_there p.0 g p.1.1
 
-abbrev pub IsFull : Grid → Type 0
+abbrev IsFull : Grid → Type 0
 IsFull g = (map length g.sides ≡ map length g.rows) × AreSome (map length g.rows)
 
 -- each row has a cell, and a side for each cell
@@ -137,28 +137,28 @@ later_fits (w ∷ ws) (n ∷ ns) (s ∷ ss) (x ∷ xs) h =
     let narrow = h.0 in
     (omega arith, later_fits ws ns ss xs h.1)
 
-row_fits : (a : Attrs) (rows : List (List WideValue)) (sides : List (List Side)) (i : ℕ)
+columns_fit : (a : Attrs) (rows : List (List WideValue)) (sides : List (List Side)) (i : ℕ)
     → map length sides ≡ map length rows → i < length rows
-    → FitsRow (column_widths (row_widths (shown_rows a rows))) (get_or sides i [])
+    → FitsRow (column_widths (row_widths (grid_rows a rows))) (get_or sides i [])
     (shown_cells (after_rows a (take i rows)) (get_or rows i []))
-row_fits a [] sides i same h = absurd (omega arith)
-row_fits a (row ∷ rows) [] i same h = absurd cc
-row_fits a (row ∷ rows) (ss ∷ sides) zero same h =
+columns_fit a [] sides i same h = absurd (omega arith)
+columns_fit a (row ∷ rows) [] i same h = absurd cc
+columns_fit a (row ∷ rows) (ss ∷ sides) zero same h =
     let long : length ss ≡ length row = cc in
-    first_fits (column_widths (row_widths (shown_rows (after_cells a row) rows))) ss (shown_cells a row)
+    first_fits (column_widths (row_widths (grid_rows (after_cells a row) rows))) ss (shown_cells a row)
     (long ∙ sym (cells_long a row))
-row_fits a (row ∷ rows) (ss ∷ sides) (suc i) same h =
+columns_fit a (row ∷ rows) (ss ∷ sides) (suc i) same h =
     let others : map length sides ≡ map length rows = cc in
-    later_fits (map cells_across (shown_cells a row)) (column_widths (row_widths (shown_rows (after_cells a row) rows)))
+    later_fits (map cells_across (shown_cells a row)) (column_widths (row_widths (grid_rows (after_cells a row) rows)))
     (get_or sides i []) (shown_cells (after_rows (after_cells a row) (take i rows)) (get_or rows i []))
-    (row_fits (after_cells a row) rows sides i others (omega arith))
+    (columns_fit (after_cells a row) rows sides i others (omega arith))
 
 pub row_full : TakesColumns → (a : Attrs) (v : WideValue) (g : Grid) (i : ℕ) → IsTable a v g → i < length g.rows
     → IsFullRow a g i
 row_full takes a v g i table h =
     let full = is_full v g table.grid in
     let some = celled a g.rows i full.1 h in
-    let fits = row_fits a g.rows g.sides i full.0 h in
+    let fits = columns_fit a g.rows g.sides i full.0 h in
     record {
       some = some;
       sides = sided a g.rows g.sides i full.0 h;
@@ -194,10 +194,10 @@ form_whole : (f : Form) → fits_cell f ≡ true → All Whole (items_in f)
 form_whole (inline r) h = none_whole (run_items r) h
 form_whole (listed ps) h = absurd cc
 
-cells_whole : (a : Attrs) (vs : List WideValue) → cells_fit a vs ≡ true → All (All Whole) (shown_cells a vs)
+cells_whole : (a : Attrs) (vs : List WideValue) → row_fits a vs ≡ true → All (All Whole) (shown_cells a vs)
 cells_whole a [] h = All-nil (All Whole)
 cells_whole a (v ∷ vs) h =
-    let both = both_true (fits_cell (show a v).form) (cells_fit (show a v).after vs) h in
+    let both = both_true (fits_cell (show a v).form) (row_fits (show a v).after vs) h in
     All-cons (All Whole) (items_in (show a v).form) (shown_cells (show a v).after vs)
     (form_whole (show a v).form both.0) (cells_whole (show a v).after vs both.1)
 
@@ -205,9 +205,9 @@ rows_whole : (a : Attrs) (rows : List (List WideValue)) (i : ℕ) → rows_fit a
     → All (All Whole) (shown_cells (after_rows a (take i rows)) (get_or rows i []))
 rows_whole a [] i fit h = absurd (omega arith)
 rows_whole a (row ∷ rows) zero fit h =
-    cells_whole a row (both_true (cells_fit a row) (rows_fit (after_cells a row) rows) fit).0
+    cells_whole a row (both_true (row_fits a row) (rows_fit (after_cells a row) rows) fit).0
 rows_whole a (row ∷ rows) (suc i) fit h =
-    rows_whole (after_cells a row) rows i (both_true (cells_fit a row) (rows_fit (after_cells a row) rows) fit).1
+    rows_whole (after_cells a row) rows i (both_true (row_fits a row) (rows_fit (after_cells a row) rows) fit).1
     (omega arith)
 
 pub row_whole : (a : Attrs) (v : WideValue) (g : Grid) (i : ℕ) → IsTable a v g → i < length g.rows

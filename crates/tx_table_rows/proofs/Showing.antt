@@ -1,9 +1,8 @@
 -- A `tabular` with a grid shows its rows.
-use Rattle.std.proofs.Common.{◌≡◌, ℕ, zero, suc, ◌+◌, ◌<◌, Bool, true, false, ◌&&◌, cond, List, [], ◌∷◌, ◌++◌, map, length}
-use Rattle.std.proofs.Common.{take, drop, get_or, Option, Some, None, refl, sym, ap, ap₂, ◌∙◌, subst, arith}
+use Rattle.std.proofs.Common.{◌≡◌, ℕ, zero, suc, ◌+◌, Bool, true, false, ◌&&◌, cond, List, [], ◌∷◌, ◌++◌, map, length}
+use Rattle.std.proofs.Common.{take, drop, get_or, Option, Some, None, refl, sym, ap, ap₂, ◌∙◌, arith}
 use Rattle.std.specs.Prelude.{codes, option_and_then, if◌then◌else◌}
 use Rattle.std.specs.List.{range_with_len}
-use Rattle.std.specs.Option.{option_map}
 use Rattle.std.specs.Str.{bytes_eq}
 use Rattle.std.proofs.lemmas.Slice.Eq.{bytes_eq-Decides}
 use Rattle.tx_origin.specs.Values.{WideValue, WideValues, text, made, vals, each_of}
@@ -11,7 +10,6 @@ use Rattle.tx_table.specs.declared.grids.Grid.{Grid}
 use Rattle.tx_table.specs.declared.settings.Side.{Side}
 use Rattle.tx_table.specs.Grids.{one_of, format_grid, grid_of}
 use Rattle.tx_items.specs.declared.attributes.Attrs.{Attrs}
-use Rattle.tx_items.specs.declared.drawing.Item.{Item}
 use Rattle.tx_items.specs.declared.drawing.Paragraph.{Paragraph}
 use Rattle.tx_items.specs.Drawing.{paragraph}
 use Rattle.tx_items.specs.Tables.{ShownRow, levels_of, row_items, row_paragraphs, table_paragraphs}
@@ -22,7 +20,7 @@ use Rattle.tx_items.specs.Shows.{Form, listed, Shown, AllShown, both_shown, item
 use Rattle.tx_items.specs.Shows.{tabular_shown, rule_shown, show, show_all, show_with, show_below}
 use Rattle.tx_items.specs.Shows as shows
 use Rattle.tx_items.proofs.Below.{all_nothing, all_first, all_append, each_length, below_all, grid_holds}
-use Rattle.tx_table_rows.specs.GridRows.{shown_cells, cells_fit, after_cells, shown_rows, rows_fit, after_rows}
+use Rattle.tx_table_rows.specs.GridRows.{shown_cells, row_fits, after_cells, grid_rows, rows_fit, after_rows}
 use Rattle.tx_table_rows.specs.GridRows.{columns_of, all_rows}
 
 -- ---- cells, one after the other
@@ -43,7 +41,7 @@ after_them a [] = ap (λ x. after_each a x.each) (all_nothing a)
 after_them a (v ∷ vs) =
     ap (λ x. after_each a x.each) (all_first a v (vals vs)) ∙ after_them (show a v).after vs
 
-fit_all : (a : Attrs) (vs : List WideValue) → shows.cells_fit (show_all false a (vals vs)).each ≡ cells_fit a vs
+fit_all : (a : Attrs) (vs : List WideValue) → shows.cells_fit (show_all false a (vals vs)).each ≡ row_fits a vs
 fit_all a [] = ap (λ x. shows.cells_fit x.each) (all_nothing a)
 fit_all a (v ∷ vs) =
     ap (λ x. shows.cells_fit x.each) (all_first a v (vals vs))
@@ -95,7 +93,7 @@ rows_split n ns a x y h =
     (take_front n x y h) (drop_front n x y h)
 
 rows_each : (a : Attrs) (rows : List (List WideValue))
-    → shows.shown_rows (map length rows) a (show_all false a (vals (all_cells rows))).each ≡ shown_rows a rows
+    → shows.shown_rows (map length rows) a (show_all false a (vals (all_cells rows))).each ≡ grid_rows a rows
 rows_each a [] = refl
 rows_each a (row ∷ rows) =
     let x : AllShown = show_all false a (vals row) in
@@ -124,14 +122,14 @@ range_first f y ys =
     let long : length (y ∷ ys) ≡ suc (length ys) = omega arith in
     ap (λ n. map f (range_with_len 0 n)) long ∙ ap (λ xs. f 0 ∷ xs) (range_later f 0 (length ys))
 
-abbrev pub row_of : List ℕ → List (List Side) → Attrs → List (List WideValue) → ℕ → Paragraph
+abbrev row_of : List ℕ → List (List Side) → Attrs → List (List WideValue) → ℕ → Paragraph
 row_of columns sides a rows i =
     paragraph (row_items columns (get_or sides i []) (shown_cells (after_rows a (take i rows)) (get_or rows i [])))
     (after_rows a (take i rows))
 
 rows_are : (columns : List ℕ) (sides : List (List Side)) (a : Attrs) (rows : List (List WideValue))
     → map length sides ≡ map length rows
-    → row_paragraphs columns sides (shown_rows a rows)
+    → row_paragraphs columns sides (grid_rows a rows)
     ≡ map (row_of columns sides a rows) (range_with_len 0 (length rows))
 rows_are columns [] a [] h = refl
 rows_are columns (ss ∷ sides) a [] h = absurd cc
@@ -172,7 +170,7 @@ tabular_is a label vs at g e =
     ∙ ap (λ o. tabular_shown a label o cells) e
 
 paragraphs_are : (a : Attrs) (g : Grid) → map length g.sides ≡ map length g.rows
-    → row_paragraphs (columns_of a g) g.sides (shown_rows a g.rows) ≡ all_rows a g
+    → row_paragraphs (columns_of a g) g.sides (grid_rows a g.rows) ≡ all_rows a g
 paragraphs_are a g h = rows_are (columns_of a g) g.sides a g.rows h
 
 made_shown : (a : Attrs) (label : List ℕ) (vs : WideValues) (at : Option (List ℕ)) (g : Grid)

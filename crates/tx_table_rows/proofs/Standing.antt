@@ -1,8 +1,7 @@
 -- A row of a table on its page.
 use Rattle.std.proofs.Common.{◌≡◌, ℕ, zero, suc, ◌+◌, ◌-◌, ◌<◌, ◌≤◌, Bool, true, false, cond, List, [], ◌∷◌, ◌++◌}
-use Rattle.std.proofs.Common.{map, length, take, drop, get_or, Option, Some, None, refl, sym, ap, ◌∙◌, subst, arith}
+use Rattle.std.proofs.Common.{length, take, drop, get_or, Option, Some, None, refl, sym, ap, ◌∙◌, subst, arith}
 use Rattle.std.specs.Prelude.{nat_lt, slice_get, option_and_then}
-use Rattle.std.specs.List.{range_with_len}
 use Rattle.std.specs.Option.{option_map}
 use Rattle.std.proofs.lemmas.List.{length-append, take-append-drop, drop_more}
 use Rattle.std.proofs.lemmas.List.FromFn.{length-map-range_with_len, get_or-map-range_with_len}
@@ -28,8 +27,8 @@ use Rattle.tx_view_form.specs.Started.{attributes_of}
 use Rattle.tx_view_form.specs.Views.{UnitView, IsShown, AreShown, lines_of}
 use Rattle.tx_view_form.specs.Cells.{row_in}
 use Rattle.tx_view_form.specs.Positions.{place_on, place_in, position_in}
-use Rattle.tx_table_rows.specs.GridRows.{row_at, all_rows}
-use Rattle.tx_table_rows.specs.RowLines.{HasRoom, row_line, IsPageRow}
+use Rattle.tx_table_rows.specs.GridRows.{row_shown, all_rows}
+use Rattle.tx_table_rows.specs.RowLines.{RowHasRoom, row_line, IsPageRow}
 use Rattle.tx_table_rows.specs.TableUnits.{moment_before}
 
 -- ---- the line of a row of all
@@ -77,7 +76,8 @@ line_there (y ∷ ys) r x k line e there =
         let unit : y ≡ x = ap (λ o. (pair_in o).0) h in
         let row : r ≡ k = ap (λ o. (pair_in o).1) h in
         ap (λ ls. slice_get ls r) split
-        ∙ in_first y.lines (lines_of ys) r line (ap (λ z. slice_get z.lines r) unit ∙ ap (slice_get x.lines) row ∙ there)
+        ∙ in_first y.lines (lines_of ys) r line
+        (ap (λ z. slice_get z.lines r) unit ∙ ap (slice_get x.lines) row ∙ there)
     pick false is h rest =
         ap (λ ls. slice_get ls r) split ∙ in_rest y.lines (lines_of ys) r (not_lower r (length y.lines) is) ∙ rest h
 
@@ -89,9 +89,9 @@ shift_le Center free = omega arith
 shift_le Right free = omega arith
 shift_le Justify free = omega arith
 
-pub within_page : (p : Paragraph) (width : ℕ) → cells_across p.items ≤ least_width (line_frame p width)
+pub line_on_page : (p : Paragraph) (width : ℕ) → cells_across p.items ≤ least_width (line_frame p width)
     → 0 < cells_across p.items → (one_line p width).indent + cells_across p.items ≤ width
-within_page p width narrow some =
+line_on_page p width narrow some =
     let first : ℕ = width - first_indent p width - right_margin p width in
     let moved : shift (line_frame p width).side (first - cells_across p.items) ≤ first - cells_across p.items =
     shift_le (line_frame p width).side (first - cells_across p.items) in
@@ -156,15 +156,15 @@ got_between above below line =
 
 -- the rows before one, this one, and those after it
 pub rows_split : (a : Attrs) (g : Grid) (i : ℕ) → i < length g.rows
-    → all_rows a g ≡ take i (all_rows a g) ++ row_at a g i ∷ drop (i + 1) (all_rows a g)
+    → all_rows a g ≡ take i (all_rows a g) ++ row_shown a g i ∷ drop (i + 1) (all_rows a g)
 rows_split a g i h =
     let rows : List Paragraph = all_rows a g in
-    let many = length-map-range_with_len (row_at a g) 0 (length g.rows) in
-    let here : get_or rows i (row_at a g i) ≡ row_at a g i =
-    get_or-map-range_with_len (row_at a g) 0 (length g.rows) i i (row_at a g i) h (omega arith) in
+    let many = length-map-range_with_len (row_shown a g) 0 (length g.rows) in
+    let here : get_or rows i (row_shown a g i) ≡ row_shown a g i =
+    get_or-map-range_with_len (row_shown a g) 0 (length g.rows) i i (row_shown a g i) h (omega arith) in
     sym (take-append-drop i rows)
     ∙ ap (λ ps. take i rows ++ ps)
-    (drop_more rows i (row_at a g i) (omega arith) ∙ ap (λ p. p ∷ drop (i + 1) rows) here)
+    (drop_more rows i (row_shown a g i) (omega arith) ∙ ap (λ p. p ∷ drop (i + 1) rows) here)
 
 -- ---- a unit of a document
 
@@ -185,7 +185,7 @@ unit_there width m (t ∷ us) (x ∷ xs) (suc n) u h e =
 
 pub page_row : (a : Attrs) (g : Grid) (width n i : ℕ) (path : List ℕ) (xs : List UnitView) (x : UnitView)
     (above below : List Line) → slice_get xs n ≡ Some x → x.path ≡ Some path
-    → x.lines ≡ above ++ row_line a g width i ∷ below → i < length g.rows → HasRoom a g width i
+    → x.lines ≡ above ++ row_line a g width i ∷ below → i < length g.rows → RowHasRoom a g width i
     → IsPageRow a g width i xs (length (lines_of (take n xs)) + length above) path
 page_row a g width n i path xs x above below there has lines h room =
     let line : Line = row_line a g width i in

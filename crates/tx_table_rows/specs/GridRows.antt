@@ -23,9 +23,9 @@ shown_cells a [] = []
 shown_cells a (v ∷ vs) = items_in (show a v).form ∷ shown_cells (show a v).after vs
 
 -- each shows in a line that nothing ends
-abbrev pub cells_fit : Attrs → List WideValue → Bool
-cells_fit a [] = true
-cells_fit a (v ∷ vs) = fits_cell (show a v).form && cells_fit (show a v).after vs
+abbrev pub row_fits : Attrs → List WideValue → Bool
+row_fits a [] = true
+row_fits a (v ∷ vs) = fits_cell (show a v).form && row_fits (show a v).after vs
 
 abbrev pub after_cells : Attrs → List WideValue → Attrs
 after_cells a [] = a
@@ -34,13 +34,13 @@ after_cells a (v ∷ vs) = after_cells (show a v).after vs
 -- ---- rows of cells
 
 -- the attributes before each, and what its cells show
-abbrev pub shown_rows : Attrs → List (List WideValue) → List ShownRow
-shown_rows a [] = []
-shown_rows a (row ∷ rows) = (a, shown_cells a row) ∷ shown_rows (after_cells a row) rows
+abbrev pub grid_rows : Attrs → List (List WideValue) → List ShownRow
+grid_rows a [] = []
+grid_rows a (row ∷ rows) = (a, shown_cells a row) ∷ grid_rows (after_cells a row) rows
 
 abbrev pub rows_fit : Attrs → List (List WideValue) → Bool
 rows_fit a [] = true
-rows_fit a (row ∷ rows) = cells_fit a row && rows_fit (after_cells a row) rows
+rows_fit a (row ∷ rows) = row_fits a row && rows_fit (after_cells a row) rows
 
 abbrev pub after_rows : Attrs → List (List WideValue) → Attrs
 after_rows a [] = a
@@ -50,7 +50,7 @@ after_rows a (row ∷ rows) = after_rows (after_cells a row) rows
 
 -- the width of each column: the greatest natural width in it
 abbrev pub columns_of : Attrs → Grid → List ℕ
-columns_of a g = column_widths (row_widths (shown_rows a g.rows))
+columns_of a g = column_widths (row_widths (grid_rows a g.rows))
 
 -- the attributes before row i
 abbrev pub attrs_before : Attrs → Grid → ℕ → Attrs
@@ -65,12 +65,12 @@ abbrev pub sides_at : Grid → ℕ → List Side
 sides_at g i = get_or g.sides i []
 
 -- its paragraph: the cells between their pads, in the columns of the table
-abbrev pub row_at : Attrs → Grid → ℕ → Paragraph
-row_at a g i = paragraph (row_items (columns_of a g) (sides_at g i) (cells_at a g i)) (attrs_before a g i)
+abbrev pub row_shown : Attrs → Grid → ℕ → Paragraph
+row_shown a g i = paragraph (row_items (columns_of a g) (sides_at g i) (cells_at a g i)) (attrs_before a g i)
 
 -- a paragraph for each row, in order
 abbrev pub all_rows : Attrs → Grid → List Paragraph
-all_rows a g = map (row_at a g) (range_with_len 0 (length g.rows))
+all_rows a g = map (row_shown a g) (range_with_len 0 (length g.rows))
 
 -- Row i has a cell, a side for each cell, and for each cell a column that is no narrower. It takes the cells of all
 -- columns and of a gap of 2 between them.
@@ -78,7 +78,7 @@ pub record IsFullRow (a : Attrs) (g : Grid) (i : ℕ) : Type 0 where
   pub some : 0 < length (cells_at a g i)
   pub sides : length (sides_at g i) ≡ length (cells_at a g i)
   pub fits : FitsRow (columns_of a g) (sides_at g i) (cells_at a g i)
-  pub across : cells_across (row_at a g i).items ≡ across (columns_of a g)
+  pub across : cells_across (row_shown a g i).items ≡ across (columns_of a g)
 
 -- the value is a `tabular` with this grid, and its cells fit
 pub record IsTable (a : Attrs) (v : WideValue) (g : Grid) : Type 0 where

@@ -11,15 +11,15 @@ use Rattle.tx_layout.specs.OneLine.{one_line}
 use Rattle.tx_view_form.specs.Views.{UnitView, AreLines}
 use Rattle.tx_view_form.specs.Cells.{row_in}
 use Rattle.tx_view_form.specs.TableCells.{CoversColumn}
-use Rattle.tx_table_rows.specs.GridRows.{columns_of, sides_at, cells_at, row_at}
+use Rattle.tx_table_rows.specs.GridRows.{columns_of, sides_at, cells_at, row_shown}
 
 -- the columns and the gaps of 2 between them take at most the least width of the row's lines
-abbrev pub HasRoom : Attrs → Grid → ℕ → ℕ → Type 0
-HasRoom a g width i = across (columns_of a g) ≤ least_width (line_frame (row_at a g i) width)
+abbrev pub RowHasRoom : Attrs → Grid → ℕ → ℕ → Type 0
+RowHasRoom a g width i = across (columns_of a g) ≤ least_width (line_frame (row_shown a g i) width)
 
 -- the row as one line
 abbrev pub row_line : Attrs → Grid → ℕ → ℕ → Line
-row_line a g width i = one_line (row_at a g i) width
+row_line a g width i = one_line (row_shown a g i) width
 
 -- the line is between the lines of the paragraphs before and those of the paragraphs after
 pub record IsLineBetween (width : ℕ) (before after : List Paragraph) (line : Line) (lines : List Line) : Type 0 where
@@ -32,7 +32,7 @@ pub record IsLineBetween (width : ℕ) (before after : List Paragraph) (line : L
 -- row i of the table is in one line, which is row r of all, in a unit with this path
 pub record IsPageRow (a : Attrs) (g : Grid) (width i : ℕ) (xs : List UnitView) (r : ℕ) (path : List ℕ) : Type 0 where
   pub within : i < length g.rows
-  pub room : HasRoom a g width i
+  pub room : RowHasRoom a g width i
   pub unit : UnitView
   pub number : ℕ
   pub found : row_in xs r ≡ Some (unit, number)
@@ -43,4 +43,4 @@ pub record IsPageRow (a : Attrs) (g : Grid) (width i : ℕ) (xs : List UnitView)
 -- with a gap of 2 each, the left pad of the cell, and the items before it in the cell
 abbrev pub CellCovers : Attrs → Grid → ℕ → ℕ → ℕ → Item → ℕ → Type 0
 CellCovers a g width i j item c =
-    CoversColumn (row_at a g i) width (columns_of a g) (sides_at g i) (cells_at a g i) j item c
+    CoversColumn (row_shown a g i) width (columns_of a g) (sides_at g i) (cells_at a g i) j item c

@@ -1,7 +1,8 @@
-use Rattle.std.proofs.Common.{◌≡◌, ℕ, ◌+◌, ◌-◌, ◌<◌, ◌≤◌, List, ◌∷◌, ◌++◌, Option, Some, take, drop, get_or, ap, ◌∙◌, refl, sym, subst, arith}
+use Rattle.std.proofs.Common.{◌≡◌, ℕ, ◌+◌, ◌-◌, List, ◌∷◌, ◌++◌, Option, Some, take, drop, get_or}
+use Rattle.std.proofs.Common.{ap, ◌∙◌, refl, sym, subst, arith}
 use Rattle.std.specs.Prelude.{option_and_then}
 use Rattle.tx_table.specs.declared.settings.Side.TheVariants.{Left}
-use Rattle.tx_table.specs.Columns.{across, left_pad}
+use Rattle.tx_table.specs.Columns.{left_pad}
 use Rattle.tx_origin.specs.TaggedTrees.{tagged_of}
 use Rattle.tx_origin.specs.Values.{WideValue}
 use Rattle.tx_units.specs.Units.{units}
@@ -9,17 +10,18 @@ use Rattle.tx_items.specs.declared.attributes.Attrs.{Attrs}
 use Rattle.tx_items.specs.declared.drawing.Paragraph.{Paragraph}
 use Rattle.tx_items.specs.Cells.{cells_across}
 use Rattle.tx_items.specs.RowPlaces.{column_start}
+use Rattle.tx_layout.specs.declared.layout.Line.{Line}
 use Rattle.tx_view_form.specs.Cells.{drawn_at}
 use Rattle.tx_view_form.specs.Outcomes.{Moment, beginning, outcome, unit_value}
 use Rattle.tx_view_form.specs.Positions.{start_of}
 use Rattle.tx_view_form.specs.Started.{attributes_of}
 use Rattle.tx_view_form.specs.Views.{UnitView, IsShown}
-use Rattle.tx_table_rows.specs.GridRows.{columns_of, sides_at, cells_at, row_at, all_rows}
+use Rattle.tx_table_rows.specs.GridRows.{columns_of, sides_at, cells_at, row_shown, all_rows}
 use Rattle.tx_table_rows.specs.RowLines.{row_line, IsLineBetween}
 use Rattle.tx_table_rows.proofs.Showing.{table_shown}
 use Rattle.tx_table_rows.proofs.Fitting.{row_full}
 use Rattle.tx_table_rows.proofs.Filling.{is_row, line_between, lines_alone, first_lines, unit_rows, row_filled}
-use Rattle.tx_table_rows.proofs.Standing.{line_there, within_page, in_row, position_there}
+use Rattle.tx_table_rows.proofs.Standing.{line_there, line_on_page, in_row, position_there}
 use Rattle.tx_table_rows.proofs.Standing.{rows_split, page_row, unit_there}
 use Rattle.tx_table_rows.proofs.laws.shown_rows_law.Goals as goal
 
@@ -39,9 +41,9 @@ returns-clause-cells c = λ a v g i j cell table h there.
 
 pub returns-clause-lines : goal.returns-clause-lines
 returns-clause-lines c = λ a v g width i before after lines table h room are.
-    line_between width before after (row_at a g i) (before ++ row_at a g i ∷ after) lines
+    line_between width before after (row_shown a g i) (before ++ row_shown a g i ∷ after) lines
     (λ own shape.
-    c.table_place_law.ensures.line (row_at a g i) width (columns_of a g) (sides_at g i) (cells_at a g i) own
+    c.table_place_law.ensures.line (row_shown a g i) width (columns_of a g) (sides_at g i) (cells_at a g i) own
     (is_row c.row_law.ensures.across a v g width i table h room) shape)
     are refl
 
@@ -63,32 +65,33 @@ returns-clause-document c = λ buffers width height w n i path a g view unit h r
     (subst (λ b. Shown unit.moment b unit.unit.path x) (sym unit.attrs)
     (subst (λ m. Shown m (attributes_of m.env) unit.unit.path x) (sym unit.before) found.1.1)) in
     let rows : List Paragraph = all_rows a g in
-    let split : x.paragraphs ≡ take i rows ++ row_at a g i ∷ drop (i + 1) rows =
+    let split : x.paragraphs ≡ take i rows ++ row_shown a g i ∷ drop (i + 1) rows =
     unit_rows a v g width path x unit.table shown ∙ rows_split a g i h in
     let between : IsLineBetween width (take i rows) (drop (i + 1) rows) (row_line a g width i) x.lines =
-    line_between width (take i rows) (drop (i + 1) rows) (row_at a g i) x.paragraphs x.lines
+    line_between width (take i rows) (drop (i + 1) rows) (row_shown a g i) x.paragraphs x.lines
     (λ own shape.
-    c.table_place_law.ensures.line (row_at a g i) width (columns_of a g) (sides_at g i) (cells_at a g i) own
+    c.table_place_law.ensures.line (row_shown a g i) width (columns_of a g) (sides_at g i) (cells_at a g i) own
     (is_row c.row_law.ensures.across a v g width i unit.table h room) shape)
     shown.lines split in
+    let above : List Line = between.above in
     record {
-      above = between.above;
+      above = above;
       before = between.first;
-      each_one = first_lines c.row_law.ensures.across c.table_place_law.ensures.line a v g width i between.above unit.table h
+      each_one = first_lines c.row_law.ensures.across c.table_place_law.ensures.line a v g width i above unit.table h
           between.first;
-      row = page_row a g width n i path w.units x between.above between.below found.1.0 shown.path_is between.are h room;
+      row = page_row a g width n i path w.units x above between.below found.1.0 shown.path_is between.are h room;
     }
 
 pub returns-clause-drawn : goal.returns-clause-drawn
 returns-clause-drawn c = λ a v g width i xs r path j item col table row covers.
     ap (option_and_then (λ line. drawn_at line col))
     (line_there xs r row.unit row.number (row_line a g width i) row.found row.line)
-    ∙ c.table_place_law.ensures.drawn (row_at a g i) width (columns_of a g) (sides_at g i) (cells_at a g i) j item col
-    (is_row c.row_law.ensures.across a v g width i table row.within row.room) covers
+    ∙ c.table_place_law.ensures.drawn (row_shown a g i) width (columns_of a g) (sides_at g i) (cells_at a g i) j item
+    col (is_row c.row_law.ensures.across a v g width i table row.within row.room) covers
 
 pub returns-clause-place : goal.returns-clause-place
 returns-clause-place c = λ a v g width i xs r path j item col m table row covers marked.
-    let p : Paragraph = row_at a g i in
+    let p : Paragraph = row_shown a g i in
     let fit = is_row c.row_law.ensures.across a v g width i table row.within row.room in
     let full = row_full c.row_law.ensures.across a v g i table row.within in
     let columns_wide = full.across in
@@ -101,7 +104,7 @@ returns-clause-place c = λ a v g width i xs r path j item col m table row cover
     let low = covers.from in
     let high = covers.before in
     let room = row.room in
-    let page = within_page p width (omega arith) (omega arith) in
+    let page = line_on_page p width (omega arith) (omega arith) in
     position_there xs width r col row.unit row.number path (row_line a g width i) (start_of path m) (omega arith)
     row.found row.has_path row.line
     (c.table_place_law.ensures.place p width (columns_of a g) (sides_at g i) (cells_at a g i) j item col path
