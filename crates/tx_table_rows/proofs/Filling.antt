@@ -32,7 +32,7 @@ use Rattle.tx_layout.specs.OneLine.{one_line}
 use Rattle.tx_view_form.specs.Views.{UnitView, AreLines, no_lines, lines_then, IsShown}
 use Rattle.tx_view_form.specs.TableCells.{IsTableRow}
 use Rattle.tx_table_rows.specs.GridRows.{rows_fit, columns_of, sides_at, cells_at, row_shown, all_rows, IsTable}
-use Rattle.tx_table_rows.specs.RowLines.{RowHasRoom, IsLineBetween}
+use Rattle.tx_table_rows.specs.RowLines.{RowHasRoom, AreBetween}
 use Rattle.tx_table_rows.proofs.Showing.{table_shown}
 use Rattle.tx_table_rows.proofs.Fitting.{has_row, TakesColumns, row_full, row_whole}
 
@@ -50,33 +50,56 @@ OnlyLine width p = (own : List Line) → IsShape p width own → own ≡ one_lin
 
 -- ---- among other paragraphs
 
-pub line_between : (width : ℕ) (before after : List Paragraph) (p : Paragraph) (ps : List Paragraph)
-    (lines : List Line) → OnlyLine width p → AreLines width ps lines → ps ≡ before ++ p ∷ after
-    → IsLineBetween width before after (one_line p width) lines
-line_between width [] after p ps lines only no_lines e = absurd cc
-line_between width [] after p ps lines only (lines_then q qs own others shape more) e =
+-- the lines of a paragraph among those of others
+pub record HasBetween (width : ℕ) (before after : List Paragraph) (p : Paragraph) (lines : List Line) : Type 0 where
+  pub own : List Line
+  pub shape : IsShape p width own
+  pub between : AreBetween width before after own lines
+
+more_above : (own others above rest : List Line) → others ≡ above ++ rest → own ++ others ≡ (own ++ above) ++ rest
+more_above own others above rest e = ap (λ ls. own ++ ls) e ∙ sym (append_assoc own above rest)
+
+pub shape_between : (width : ℕ) (before after : List Paragraph) (p : Paragraph) (ps : List Paragraph)
+    (lines : List Line) → AreLines width ps lines → ps ≡ before ++ p ∷ after → HasBetween width before after p lines
+shape_between width [] after p ps lines no_lines e = absurd cc
+shape_between width [] after p ps lines (lines_then q qs own others shape more) e =
     let first : q ≡ p = cc in
     let rest : qs ≡ after = cc in
     record {
-      above = [];
-      below = others;
-      are = ap (λ ls. ls ++ others) (only own (subst (λ z. IsShape z width own) first shape));
-      first = no_lines;
-      last = subst (λ zs. AreLines width zs others) rest more;
+      own = own;
+      shape = subst (λ z. IsShape z width own) first shape;
+      between = record {
+        above = [];
+        below = others;
+        are = refl;
+        first = no_lines;
+        last = subst (λ zs. AreLines width zs others) rest more;
+      };
     }
-line_between width (b ∷ before) after p ps lines only no_lines e = absurd cc
-line_between width (b ∷ before) after p ps lines only (lines_then q qs own others shape more) e =
+shape_between width (b ∷ before) after p ps lines no_lines e = absurd cc
+shape_between width (b ∷ before) after p ps lines (lines_then q qs own others shape more) e =
     let first : q ≡ b = cc in
     let rest : qs ≡ before ++ p ∷ after = cc in
-    let found = line_between width before after p qs others only more rest in
+    let found = shape_between width before after p qs others more rest in
+    let there = found.between in
     record {
-      above = own ++ found.above;
-      below = found.below;
-      are = ap (λ ls. own ++ ls) found.are
-          ∙ sym (append_assoc own found.above (one_line p width ∷ found.below));
-      first = lines_then b before own found.above (subst (λ z. IsShape z width own) first shape) found.first;
-      last = found.last;
+      own = found.own;
+      shape = found.shape;
+      between = record {
+        above = own ++ there.above;
+        below = there.below;
+        are = more_above own others there.above (found.own ++ there.below) there.are;
+        first = lines_then b before own there.above (subst (λ z. IsShape z width own) first shape) there.first;
+        last = there.last;
+      };
     }
+
+pub line_between : (width : ℕ) (before after : List Paragraph) (p : Paragraph) (ps : List Paragraph)
+    (lines : List Line) → OnlyLine width p → AreLines width ps lines → ps ≡ before ++ p ∷ after
+    → AreBetween width before after (one_line p width ∷ []) lines
+line_between width before after p ps lines only are e =
+    let found = shape_between width before after p ps lines are e in
+    subst (λ own. AreBetween width before after own lines) (only found.own found.shape) found.between
 
 -- ---- a unit of a table alone
 

@@ -1,5 +1,5 @@
 -- The rows of a table as lines of a page.
-use Rattle.std.specs.Prelude.{◌≡◌, ℕ, ◌<◌, ◌≤◌, List, ◌∷◌, ◌++◌, length, Some, slice_get}
+use Rattle.std.specs.Prelude.{◌≡◌, ℕ, ◌<◌, ◌≤◌, List, ◌++◌, length, Some, slice_get}
 use Rattle.tx_table.specs.declared.grids.Grid.{Grid}
 use Rattle.tx_table.specs.Columns.{across}
 use Rattle.tx_items.specs.declared.attributes.Attrs.{Attrs}
@@ -21,11 +21,11 @@ RowHasRoom a g width i = across (columns_of a g) ≤ least_width (line_frame (ro
 abbrev pub row_line : Attrs → Grid → ℕ → ℕ → Line
 row_line a g width i = one_line (row_shown a g i) width
 
--- the line is between the lines of the paragraphs before and those of the paragraphs after
-pub record IsLineBetween (width : ℕ) (before after : List Paragraph) (line : Line) (lines : List Line) : Type 0 where
+-- these lines are between the lines of the paragraphs before and those of the paragraphs after
+pub record AreBetween (width : ℕ) (before after : List Paragraph) (own lines : List Line) : Type 0 where
   pub above : List Line
   pub below : List Line
-  pub are : lines ≡ above ++ line ∷ below
+  pub are : lines ≡ above ++ (own ++ below)
   pub first : AreLines width before above
   pub last : AreLines width after below
 

@@ -1,5 +1,5 @@
 // A law of the rows of tables.
-ghost use Rattle.std.specs.Prelude.{◌≡◌, ℕ, ◌<◌, true, List, ◌∷◌, ◌++◌, map, length, Some};
+ghost use Rattle.std.specs.Prelude.{◌≡◌, ℕ, ◌<◌, true, List, [], ◌∷◌, ◌++◌, map, length, Some};
 ghost use Rattle.std.specs.Prelude.{option_and_then, slice_get, if◌then◌else◌, codes};
 ghost use Rattle.tx_origin.specs.Values.{WideValue};
 ghost use Rattle.tx_table.specs.declared.grids.Grid.{Grid};
@@ -13,14 +13,14 @@ ghost use Rattle.tx_items.specs.Shows.{show, listed, bad};
 ghost use Rattle.tx_layout.specs.declared.layout.Line.{Line};
 ghost use Rattle.tx_layout.specs.Frames.{line_frame};
 ghost use Rattle.tx_layout.specs.Segments.{HasWords};
-ghost use Rattle.tx_layout.specs.Shapes.{items_shown, IsShape};
+ghost use Rattle.tx_layout.specs.Shapes.{items_shown};
 ghost use Rattle.tx_layout.specs.OneLine.{one_line};
 ghost use Rattle.tx_view_form.specs.Views.{UnitView, AreLines, IsShown, WideView, IsView, lines_of};
 ghost use Rattle.tx_view_form.specs.Cells.{drawn_in, drawn_at};
 ghost use Rattle.tx_view_form.specs.Positions.{Mark, mark_of, start_of, position_in};
 ghost use Rattle.tx_table_rows.specs.GridRows.{rows_fit, columns_of, cells_at, sides_at, row_shown, all_rows};
 ghost use Rattle.tx_table_rows.specs.GridRows.{IsFullRow, IsTable};
-ghost use Rattle.tx_table_rows.specs.RowLines.{RowHasRoom, row_line, IsLineBetween, IsPageRow, CellCovers};
+ghost use Rattle.tx_table_rows.specs.RowLines.{RowHasRoom, row_line, AreBetween, IsPageRow, CellCovers};
 ghost use Rattle.tx_table_rows.specs.TableUnits.{IsTableUnit, StandsInUnit};
 
 use tx_items::row_law;
@@ -43,13 +43,15 @@ pub fn shown_rows_law()
     ensures lines { (a : Attrs) (v : WideValue) (g : Grid) (width i : ℕ) (before after : List Paragraph)
         (lines : List Line) → IsTable a v g → i < length g.rows → RowHasRoom a g width i →
         AreLines width (before ++ row_shown a g i ∷ after) lines →
-        IsLineBetween width before after (row_line a g width i) lines }
+        AreBetween width before after (row_line a g width i ∷ []) lines }
     ensures all { (a : Attrs) (v : WideValue) (g : Grid) (width : ℕ) (path : List ℕ) (x : UnitView) → IsTable a v g →
         ((i : ℕ) → i < length g.rows → RowHasRoom a g width i) → IsShown width a v (Some path) x →
         x.lines ≡ map (λ p. one_line p width) (all_rows a g) }
-    ensures wide { (a : Attrs) (v : WideValue) (g : Grid) (width i : ℕ) (lines : List Line) → IsTable a v g →
-        i < length g.rows → IsShape (row_shown a g i) width lines →
-        HasWords (line_frame (row_shown a g i) width) true (items_shown (row_shown a g i) width) lines }
+    ensures wide { (a : Attrs) (v : WideValue) (g : Grid) (width i : ℕ) (before after : List Paragraph)
+        (lines : List Line) → IsTable a v g → i < length g.rows →
+        AreLines width (before ++ row_shown a g i ∷ after) lines →
+        (own : List Line) × (AreBetween width before after own lines
+        × HasWords (line_frame (row_shown a g i) width) true (items_shown (row_shown a g i) width) own) }
     ensures document { (buffers : List Buffer) (width height : ℕ) (w : WideView) (n i : ℕ) (path : List ℕ) (a : Attrs)
         (g : Grid) → IsView buffers width height w → IsTableUnit buffers n path a g → i < length g.rows →
         RowHasRoom a g width i → StandsInUnit a g width n i w.units path }

@@ -1,4 +1,4 @@
-use Rattle.std.proofs.Common.{◌≡◌, ℕ, ◌+◌, ◌-◌, List, ◌∷◌, ◌++◌, Option, Some, take, drop, get_or}
+use Rattle.std.proofs.Common.{◌≡◌, ℕ, ◌+◌, ◌-◌, List, [], ◌∷◌, ◌++◌, Option, Some, take, drop, get_or}
 use Rattle.std.proofs.Common.{ap, ◌∙◌, refl, sym, subst, arith}
 use Rattle.std.specs.Prelude.{option_and_then}
 use Rattle.tx_table.specs.declared.settings.Side.TheVariants.{Left}
@@ -17,10 +17,11 @@ use Rattle.tx_view_form.specs.Positions.{start_of}
 use Rattle.tx_view_form.specs.Started.{attributes_of}
 use Rattle.tx_view_form.specs.Views.{UnitView, IsShown}
 use Rattle.tx_table_rows.specs.GridRows.{columns_of, sides_at, cells_at, row_shown, all_rows}
-use Rattle.tx_table_rows.specs.RowLines.{row_line, IsLineBetween}
+use Rattle.tx_table_rows.specs.RowLines.{row_line, AreBetween}
 use Rattle.tx_table_rows.proofs.Showing.{table_shown}
 use Rattle.tx_table_rows.proofs.Fitting.{row_full}
-use Rattle.tx_table_rows.proofs.Filling.{is_row, line_between, lines_alone, first_lines, unit_rows, row_filled}
+use Rattle.tx_table_rows.proofs.Filling.{is_row, shape_between, line_between, lines_alone, first_lines, unit_rows}
+use Rattle.tx_table_rows.proofs.Filling.{row_filled}
 use Rattle.tx_table_rows.proofs.Standing.{line_there, line_on_page, in_row, position_there}
 use Rattle.tx_table_rows.proofs.Standing.{rows_split, page_row, unit_there}
 use Rattle.tx_table_rows.proofs.laws.shown_rows_law.Goals as goal
@@ -51,7 +52,12 @@ pub returns-clause-all : goal.returns-clause-all
 returns-clause-all c = lines_alone c.row_law.ensures.across c.table_place_law.ensures.line
 
 pub returns-clause-wide : goal.returns-clause-wide
-returns-clause-wide c = row_filled c.row_law.ensures.across
+returns-clause-wide c = λ a v g width i before after lines table h are.
+    let p : Paragraph = row_shown a g i in
+    let found = shape_between width before after p (before ++ p ∷ after) lines are refl in (
+      found.own,
+      (found.between, row_filled c.row_law.ensures.across a v g width i found.own table h found.shape),
+    )
 
 pub returns-clause-document : goal.returns-clause-document
 returns-clause-document c = λ buffers width height w n i path a g view unit h room.
@@ -67,7 +73,7 @@ returns-clause-document c = λ buffers width height w n i path a g view unit h r
     let rows : List Paragraph = all_rows a g in
     let split : x.paragraphs ≡ take i rows ++ row_shown a g i ∷ drop (i + 1) rows =
     unit_rows a v g width path x unit.table shown ∙ rows_split a g i h in
-    let between : IsLineBetween width (take i rows) (drop (i + 1) rows) (row_line a g width i) x.lines =
+    let between : AreBetween width (take i rows) (drop (i + 1) rows) (row_line a g width i ∷ []) x.lines =
     line_between width (take i rows) (drop (i + 1) rows) (row_shown a g i) x.paragraphs x.lines
     (λ own shape.
     c.table_place_law.ensures.line (row_shown a g i) width (columns_of a g) (sides_at g i) (cells_at a g i) own
