@@ -2,3 +2,4 @@ mod Showing
 mod Fitting
 mod Filling
 mod Standing
+mod Worked
