@@ -1,2 +1,3 @@
-pub mod Texts
+pub mod Sequences
+pub mod Writing
 pub mod Rows

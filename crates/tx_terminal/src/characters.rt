@@ -128,3 +128,49 @@ impl Character {
         self.is_reverse
     }
 }
+
+#[cfg(test)]
+mod tests {
+    use super::Character;
+
+    // No controls, one character, no longer form than needed, no surrogate, nothing past U+10FFFF.
+    const OTHERS: [&[u8]; 13] = [
+        b"",
+        b"\x1f",
+        b"\x7f",
+        b"ab",
+        b"\x80",
+        b"\xc2\x9f",
+        b"\xc1\xbf",
+        b"\xc3",
+        b"\xc3\xa9\xa9",
+        b"\xe0\x9f\xbf",
+        b"\xed\xa0\x80",
+        b"\xf0\x8f\xbf\xbf",
+        b"\xf4\x90\x80\x80",
+    ];
+
+    const CHARACTERS: [&[u8]; 8] = [
+        b" ",
+        b"~",
+        b"\xc2\xa0",
+        b"\xdf\xbf",
+        b"\xe0\xa0\x80",
+        b"\xed\x9f\xbf",
+        b"\xf0\x90\x80\x80",
+        b"\xf4\x8f\xbf\xbf",
+    ];
+
+    #[test]
+    fn characters(rt: HostRuntime) {
+        for bytes in &OTHERS {
+            assert!(rt; Character::new(*bytes, 1, false).is_none());
+        }
+        for bytes in &CHARACTERS {
+            let character = Character::new(*bytes, 1, true).unwrap();
+            assert!(rt; character.bytes() == *bytes);
+            assert!(rt; character.is_reverse());
+            assert!(rt; Character::new(*bytes, 0, true).is_none());
+        }
+    }
+}

@@ -8,4 +8,4 @@ mod characters;
 mod painting;
 
 pub use characters::Character;
-pub use painting::{move_to, paint_row, set_cursor_shown};
+pub use painting::{move_to, paint_row, set_cursor_shown, terminal_laws};

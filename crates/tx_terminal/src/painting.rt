@@ -2,6 +2,7 @@
 ghost use Rattle.std.specs.Prelude.{◌≡◌, ℕ, ◌+◌, ◌++◌, List, false, take, length, decimal, IfOk, OnOk, OnErr};
 ghost use Rattle.std.specs.List.{AllByRecursion};
 ghost use Rattle.tx_terminal.specs.Characters.{IsShown};
+ghost use Rattle.tx_terminal.specs.Terminals.{Terminal, after_bytes};
 ghost use Rattle.tx_terminal.specs.Painting.{Paints, Moves, ShowsCursor};
 ghost use Rattle.tx_terminal.specs.Painting.{move_bytes, rendition_bytes, text_bytes, row_bytes};
 
@@ -132,4 +133,43 @@ pub fn set_cursor_shown(is_shown: bool, out: &mut Vec<u8>) -> Result<(), Memory>
     }
     out.extend_from_slice(b"\x1b[?25l")?;
     Ok(())
+}
+
+/// What bytes make of a terminal is what their parts make of it in order.
+pub fn terminal_laws()
+    ensures parts { (t : Terminal) (xs ys : List ℕ)
+        → after_bytes t (xs ++ ys) ≡ after_bytes (after_bytes t xs) ys }
+{}
+
+#[cfg(test)]
+mod tests {
+    use super::{move_to, paint_row, set_cursor_shown};
+    use crate::characters::Character;
+
+    #[test]
+    fn rows(rt: HostRuntime) {
+        let alloc = rt.alloc();
+        let mut row = Vec::new(alloc);
+        row.push(Character::new(b"a", 1, false).unwrap()).unwrap();
+        row.push(Character::new(b"\xe6\xbc\xa2", 2, true).unwrap())
+            .unwrap();
+        row.push(Character::new(b"\xc3\xa9", 1, true).unwrap())
+            .unwrap();
+        row.push(Character::new(b"z", 1, false).unwrap()).unwrap();
+        let mut out = Vec::new(alloc);
+        paint_row(2, &row, &mut out).unwrap();
+        assert!(rt;
+            out.as_slice()
+                == b"\x1b[3;1H\x1b[m\x1b[2Ka\x1b[7m\xe6\xbc\xa2\xc3\xa9\x1b[mz".as_slice()
+        );
+        out.clear();
+        paint_row(0, &row[1..2], &mut out).unwrap();
+        move_to(65535, 9, &mut out).unwrap();
+        set_cursor_shown(true, &mut out).unwrap();
+        set_cursor_shown(false, &mut out).unwrap();
+        assert!(rt;
+            out.as_slice()
+                == b"\x1b[1;1H\x1b[m\x1b[2K\x1b[7m\xe6\xbc\xa2\x1b[m\x1b[65536;10H\x1b[?25h\x1b[?25l".as_slice()
+        );
+    }
 }
