@@ -61,10 +61,11 @@ put_painted t r done reverse glyphs n some there room =
     = drop-append-add done blanks n ∙ drop-replicate n (t.width - c) blank ∙ ap (λ k. replicate k blank) left in
     let long : length (done ++ cells) ≡ c + n
     = length-append done cells ∙ ap (λ k. c + k) (cells_length glyphs n reverse some) in
-    let whole : take c row ++ (cells ++ drop (c + n) row) ≡ (done ++ cells) ++ replicate (t.width - length (done ++ cells)) blank
+    let next : List Cell = (done ++ cells) ++ replicate (t.width - length (done ++ cells)) blank in
+    let whole : take c row ++ (cells ++ drop (c + n) row) ≡ next
     = rw (front, back, long) (sym (append_assoc done cells (replicate (t.width - (c + n)) blank))) in
     rw (le-leb 1 n some, le-leb (c + n) t.width room, got, at_first, at_next)
-    (rw (whole, set-set t.rows r row ((done ++ cells) ++ replicate (t.width - length (done ++ cells)) blank), sym long) refl)
+    (rw (whole, set-set t.rows r row next, sym long) refl)
 
 rendered : (t : Terminal) (r : ℕ) (done : List Cell) (from to : Bool)
     → after_bytes (painted t r done from) (rendition_bytes from to) ≡ painted t r done to
@@ -112,7 +113,7 @@ cleared : (t : Terminal) (r : ℕ) → 0 < t.width → after_bytes (standing_at 
 cleared t r wide =
     let all : t.width - 0 ≡ t.width = omega arith in rw (lt-ltb 0 t.width wide, all) refl
 
-row_painted : (t : Terminal) (r : ℕ) (row : List Shown) → AllByRecursion IsShown row → r < 65536 → r < length t.rows
+pub row_painted : (t : Terminal) (r : ℕ) (row : List Shown) → AllByRecursion IsShown row → r < 65536 → r < length t.rows
     → 0 < t.width → length (row_cells row) ≤ t.width → AllByRecursion (IsAsWide t) row
     → after_bytes (quiet t) (row_bytes r row) ≡ with_row t r (row_cells row)
 row_painted t r row ok few there wide room as_wide =
@@ -144,7 +145,7 @@ text_length (s ∷ ss) from ok =
     let rest = text_length ss s.reverse ok.1 in
     omega (arith, a, b, look, glyphs, rest)
 
-row_length : (r : ℕ) (row : List Shown) → AllByRecursion IsShown row → r < 65536
+pub row_length : (r : ℕ) (row : List Shown) → AllByRecursion IsShown row → r < 65536
     → length (row_bytes r row) ≤ 20 + 8 * length row
 row_length r row ok few =
     let whole = length-append (move_bytes r 0) (clearing ++ text_bytes false row) in

@@ -129,6 +129,37 @@ impl Character {
     }
 }
 
+/// The characters of a row, in order.
+#[derive(Drop)]
+pub struct Row {
+    all: Vec<Character>,
+}
+
+impl Model for Row {
+    ghost use Rattle.std.specs.Prelude.{List};
+    ghost use Rattle.tx_terminal.specs.Characters.{Shown};
+
+    ghost Value = { List Shown };
+
+    ghost view = { λ r. r.all.items };
+}
+
+impl Row {
+    /// The row of these characters.
+    pub fn new(characters: Vec<Character>) -> Row
+        ensures { result ≡ characters.items }
+    {
+        Row { all: characters }
+    }
+
+    /// Its characters.
+    pub fn characters(&self) -> &[Character]
+        ensures { result.now ≡ self.now }
+    {
+        &self.all
+    }
+}
+
 #[cfg(test)]
 mod tests {
     use super::Character;

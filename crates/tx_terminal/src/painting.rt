@@ -1,12 +1,12 @@
 // The bytes that paint rows and place the cursor.
-ghost use Rattle.std.specs.Prelude.{◌≡◌, ℕ, ◌+◌, ◌++◌, List, false, take, length, decimal, IfOk, OnOk, OnErr};
+ghost use Rattle.std.specs.Prelude.{◌≡◌, ℕ, ◌+◌, ◌<◌, ◌++◌, List, false, take, length, decimal, IfOk, OnOk, OnErr};
 ghost use Rattle.std.specs.List.{AllByRecursion};
 ghost use Rattle.tx_terminal.specs.Characters.{IsShown};
 ghost use Rattle.tx_terminal.specs.Terminals.{Terminal, after_bytes};
-ghost use Rattle.tx_terminal.specs.Painting.{Paints, Moves, ShowsCursor};
-ghost use Rattle.tx_terminal.specs.Painting.{move_bytes, rendition_bytes, text_bytes, row_bytes};
+ghost use Rattle.tx_terminal.specs.Painting.{Paints, PaintsRows, Moves, ShowsCursor};
+ghost use Rattle.tx_terminal.specs.Painting.{move_bytes, rendition_bytes, text_bytes, row_bytes, rows_bytes};
 
-use crate::characters::Character;
+use crate::characters::{Character, Row};
 use itoa::Buffer;
 use tx_base::Memory;
 
@@ -96,6 +96,40 @@ pub fn paint_row(at: u16, row: &[Character], out: &mut Vec<u8>) -> Result<(), Me
 {
     let count = out.len();
     match add_row(at, row, out) {
+        Ok(()) => Ok(()),
+        Err(fault) => {
+            out.truncate(count);
+            Err(fault)
+        }
+    }
+}
+
+// Adds what paints rows, from the first of the terminal on.
+fn add_rows(rows: &[Row], out: &mut Vec<u8>) -> Result<(), Memory>
+    requires { length rows.now < 65536 }
+    ensures added { OnOk result (out.new.items ≡ out.old.items ++ rows_bytes 0 rows.now) }
+    ensures valid { OnOk result (AllByRecursion (AllByRecursion IsShown) rows.now) }
+    ensures grows { take (length out.old.items) out.new.items ≡ out.old.items }
+{
+    let mut at = 0;
+    for row in rows {
+        add_row(at, row.characters(), out)?;
+        at += 1;
+    }
+    Ok(())
+}
+
+/// Adds the bytes that show rows, from the first row of the terminal on: at most 20 for each row and 8 for each
+/// character. They hold for each terminal that has as many rows, is as wide as each row, and shows each character in
+/// its cells. All further rows stay. It needs fewer than 65,536 rows. After an `Err` nothing is added.
+pub fn paint_rows(rows: &[Row], out: &mut Vec<u8>) -> Result<(), Memory>
+    requires { length rows.now < 65536 }
+    ensures painted { OnOk result ((bytes : List ℕ) × (out.new.items ≡ out.old.items ++ bytes)
+        × PaintsRows bytes rows.now) }
+    ensures refused { OnErr result (out.new.items ≡ out.old.items) }
+{
+    let count = out.len();
+    match add_rows(rows, out) {
         Ok(()) => Ok(()),
         Err(fault) => {
             out.truncate(count);
