@@ -23,7 +23,8 @@ digit t asked done last d small = rw (le-leb 48 (48 + d) (omega arith), le-leb (
 
 -- digits are the number that goes on
 abbrev Spells : ℕ → List ℕ → Type 0
-Spells n ds = (t : Terminal) (asked : Bool) (done : List ℕ) → after_bytes (begun t asked done 0) ds ≡ begun t asked done n
+Spells n ds =
+    (t : Terminal) (asked : Bool) (done : List ℕ) → after_bytes (begun t asked done 0) ds ≡ begun t asked done n
 
 one_digit : (n : ℕ) → n < 10 → Spells n ((48 + n) ∷ [])
 one_digit n small t asked done =

@@ -1,5 +1,6 @@
 -- The bytes of a character put it at the cursor.
-use Rattle.std.proofs.Common.{◌≡◌, ℕ, ◌+◌, ◌-◌, ◌<◌, ◌≤◌, Bool, true, false, List, [], ◌∷◌, ◌++◌, append_assoc, length, Some}
+use Rattle.std.proofs.Common.{◌≡◌, ℕ, ◌+◌, ◌-◌, ◌<◌, ◌≤◌, Bool, true, false, List, [], ◌∷◌, ◌++◌}
+use Rattle.std.proofs.Common.{append_assoc, length, Some}
 use Rattle.std.proofs.Common.{refl, sym, ap, subst, ◌∙◌, arith}
 use Rattle.std.specs.Prelude.{◌==◌, ◌&&◌, nat_le, if◌then◌else◌}
 use Rattle.std.specs.List.{list_all}
@@ -62,7 +63,8 @@ pub put_whole : (t : Terminal) (r c : ℕ) (glyphs : List ℕ) → is_character 
     → after_bytes (standing_at t r c) glyphs ≡ shown t r c glyphs
 put_whole t r c [] one = absurd (false≢true one)
 put_whole t r c (a ∷ []) one =
-    let long : character_length a ≡ 1 = eqb-true (character_length a) 1 one in rw (no_escape a 1 long (omega arith), long) refl
+    let long : character_length a ≡ 1 = eqb-true (character_length a) 1 one in
+    rw (no_escape a 1 long (omega arith), long) refl
 put_whole t r c (a ∷ b ∷ bs) one =
     let parts = and_parts (character_length a == length bs + 2) (is_second a b && list_all is_later bs) one in
     let rest = and_parts (is_second a b) (list_all is_later bs) parts.1 in

@@ -1,6 +1,7 @@
 //! What is written to a terminal to show a row, and what a terminal makes of it.
 //!
-//! [`paint_row`] and [`paint_rows`] write the bytes that show rows of characters, [`move_to`] those that place the cursor.
+//! [`paint_row`] and [`paint_rows`] write the bytes that show rows of characters, and [`move_to`] those that place the
+//! cursor.
 //! `specs/Terminals.antt` defines what a terminal shows after any bytes.
 #![tactic(auto)]
 

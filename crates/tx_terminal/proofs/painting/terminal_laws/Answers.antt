@@ -1,5 +1,5 @@
 use Rattle.tx_terminal.proofs.Sequences.{after_both}
 use Rattle.tx_terminal.proofs.painting.terminal_laws.Goals as goal
 
-pub returns-clause-parts : goal.returns-clause-parts
-returns-clause-parts c = λ t xs ys. after_both xs ys t
+pub returns : goal.returns
+returns c = record { parts = λ t xs ys. after_both xs ys t; }
