@@ -9,7 +9,7 @@ use Rattle.std.proofs.lemmas.List.{append-nil, length-append, length-replicate, 
 use Rattle.std.proofs.lemmas.List.{set-set, take_at, drop-replicate}
 use Rattle.std.proofs.Math.Seq.{drop-append-add}
 use Rattle.tx_terminal.specs.Characters.{Shown, IsShown}
-use Rattle.tx_terminal.specs.Terminals.{Terminal, Cell, blank, character_cells, row_at, after_bytes, put, cursor_at}
+use Rattle.tx_terminal.specs.Terminals.{Terminal, Cell, blank, character_cells, after_bytes, put, cursor_at}
 use Rattle.tx_terminal.specs.Terminals.{standing_at, quiet}
 use Rattle.tx_terminal.specs.Terminals.Mode.{settled}
 use Rattle.tx_terminal.specs.Painting.{IsAsWide, Paints, row_cells, shown_cells, with_row, move_bytes, rendition_bytes}

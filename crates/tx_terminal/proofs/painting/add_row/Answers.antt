@@ -1,4 +1,4 @@
-use Rattle.std.proofs.Common.{rules, ◌≡◌, ◌++◌, List, ℕ, take, length, refl, sym, subst, append_assoc, ◌∙◌}
+use Rattle.std.proofs.Common.{rules, ◌≡◌, ◌++◌, List, ℕ, take, length, refl, sym, subst, append_assoc}
 use Rattle.std.proofs.lemmas.List.{take_at}
 use Rattle.tx_terminal.specs.Painting.{move_bytes, clearing}
 use Rattle.tx_terminal.proofs.Rows.{still_begins}
