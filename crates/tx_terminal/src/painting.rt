@@ -177,33 +177,57 @@ pub fn terminal_laws()
 
 #[cfg(test)]
 mod tests {
-    use super::{move_to, paint_row, set_cursor_shown};
-    use crate::characters::Character;
+    use super::{move_to, paint_row, paint_rows, set_cursor_shown};
+    use crate::characters::{Character, Row};
+    use std::alloc::Global;
+    use tx_base::Memory;
+
+    // A letter, a wide and a narrow character in reverse, a letter.
+    fn mixed(alloc: Global) -> Result<Vec<Character>, Memory> {
+        let mut row = Vec::new(alloc);
+        row.push(Character::new(b"a", 1, false).unwrap())?;
+        row.push(Character::new(b"\xe6\xbc\xa2", 2, true).unwrap())?;
+        row.push(Character::new(b"\xc3\xa9", 1, true).unwrap())?;
+        row.push(Character::new(b"z", 1, false).unwrap())?;
+        Ok(row)
+    }
+
+    // It is painted in the third row.
+    fn third(alloc: Global) -> Result<Vec<u8>, Memory> {
+        let row = mixed(alloc)?;
+        let mut out = Vec::new(alloc);
+        paint_row(2, &row, &mut out)?;
+        Ok(out)
+    }
+
+    // Two rows, the first one empty, and the cursor in the last cell that can be named.
+    fn two(alloc: Global) -> Result<Vec<u8>, Memory> {
+        let mut characters = Vec::new(alloc);
+        characters.push(Character::new(b"x", 1, true).unwrap())?;
+        let mut rows = Vec::new(alloc);
+        rows.push(Row::new(Vec::new(alloc)))?;
+        rows.push(Row::new(characters))?;
+        let mut out = Vec::new(alloc);
+        set_cursor_shown(false, &mut out)?;
+        if rows.len() == 2 {
+            paint_rows(&rows, &mut out)?;
+        }
+        move_to(65535, 9, &mut out)?;
+        set_cursor_shown(true, &mut out)?;
+        Ok(out)
+    }
 
     #[test]
     fn rows(rt: HostRuntime) {
-        let alloc = rt.alloc();
-        let mut row = Vec::new(alloc);
-        row.push(Character::new(b"a", 1, false).unwrap()).unwrap();
-        row.push(Character::new(b"\xe6\xbc\xa2", 2, true).unwrap())
-            .unwrap();
-        row.push(Character::new(b"\xc3\xa9", 1, true).unwrap())
-            .unwrap();
-        row.push(Character::new(b"z", 1, false).unwrap()).unwrap();
-        let mut out = Vec::new(alloc);
-        paint_row(2, &row, &mut out).unwrap();
+        let painted = third(rt.alloc()).expect(&rt, "memory");
         assert!(rt;
-            out.as_slice()
+            painted.as_slice()
                 == b"\x1b[3;1H\x1b[m\x1b[2Ka\x1b[7m\xe6\xbc\xa2\xc3\xa9\x1b[mz".as_slice()
         );
-        out.clear();
-        paint_row(0, &row[1..2], &mut out).unwrap();
-        move_to(65535, 9, &mut out).unwrap();
-        set_cursor_shown(true, &mut out).unwrap();
-        set_cursor_shown(false, &mut out).unwrap();
+        let painted = two(rt.alloc()).expect(&rt, "memory");
         assert!(rt;
-            out.as_slice()
-                == b"\x1b[1;1H\x1b[m\x1b[2K\x1b[7m\xe6\xbc\xa2\x1b[m\x1b[65536;10H\x1b[?25h\x1b[?25l".as_slice()
+            painted.starts_with(b"\x1b[?25l\x1b[1;1H\x1b[m\x1b[2K\x1b[2;1H\x1b[m\x1b[2K\x1b[7mx")
         );
+        assert!(rt; painted.ends_with(b"\x1b[7mx\x1b[m\x1b[65536;10H\x1b[?25h"));
     }
 }
