@@ -2,5 +2,7 @@
 #![tactic(auto)]
 
 mod paging;
+mod rows;
 
-pub use paging::page_of;
+pub use paging::{page_law, page_of};
+pub use rows::row_laws;

@@ -1,0 +1,8 @@
+use Rattle.tx_moves.proofs.Covering.{begun_there, bare_there}
+use Rattle.tx_moves.proofs.rows.row_laws.Goals as goal
+
+pub returns : goal.returns
+returns c = record {
+  begun = begun_there c.cell_law.ensures;
+  bare = bare_there;
+}

@@ -1,0 +1,22 @@
+// Laws of the row of a place.
+ghost use Rattle.std.specs.Prelude.{◌≡◌, ◌<◌, ◌≤◌, ℕ, List, Some};
+ghost use Rattle.std.specs.Option.{option_map};
+ghost use Rattle.tx_tree.specs.declared.places.Place.{Place};
+ghost use Rattle.tx_view_form.specs.Views.{UnitView};
+ghost use Rattle.tx_view_form.specs.Positions.{position_in};
+ghost use Rattle.tx_moves.specs.Rows.{whole_place, Extent, begun_at, bare_at};
+
+use tx_view_form::cell_law;
+
+/// A law: where a place has a row by a cluster that begins there, the position at each column of that cluster is the
+/// place. Where it has a row as that of a unit, the position there is the place.
+pub fn row_laws()
+    ensures begun { (units : List UnitView) (width c : ℕ) (at : Place) (e : Extent) →
+        begun_at units at ≡ Some e → e.from ≤ c → c < e.to → c < width →
+        option_map whole_place (position_in units width e.row c) ≡ Some at }
+    ensures bare { (units : List UnitView) (width : ℕ) (at : Place) (e : Extent) →
+        bare_at units at ≡ Some e → e.from < width →
+        option_map whole_place (position_in units width e.row e.from) ≡ Some at }
+{
+    cell_law();
+}
