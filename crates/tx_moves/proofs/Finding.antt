@@ -1,12 +1,12 @@
 -- What is found on lines and in units: where it is, and that what is on a row is found there or above.
 use Rattle.std.proofs.Common.{◌≡◌, ℕ, zero, suc, ◌+◌, ◌-◌, ◌<◌, ◌≤◌, Bool, true, false, cond, List, [], ◌∷◌, ◌++◌, length}
 use Rattle.std.proofs.Common.{Option, Some, None, refl, sym, ap, ◌∙◌, subst, arith, ltb, ltb-true, ltb-false, lt-ltb, le-ltb}
-use Rattle.std.proofs.Common.{and_from}
-use Rattle.std.specs.Prelude.{slice_get, option_and_then, nat_lt, ◌==◌, ◌⊎◌, inl, inr}
+use Rattle.std.proofs.Common.{inl, inr}
+use Rattle.std.specs.Prelude.{slice_get, option_and_then, nat_lt, ◌==◌, ◌⊎◌}
 use Rattle.std.specs.List.{cons_option}
 use Rattle.std.specs.Option.{option_map, option_map_or, option_or}
 use Rattle.std.specs.Str.{bytes_eq}
-use Rattle.std.proofs.lemmas.Bool.{and_parts}
+use Rattle.std.proofs.lemmas.Bool.{and_parts, and_from}
 use Rattle.std.proofs.lemmas.Bool.Decides.{Decides-eqb}
 use Rattle.std.proofs.lemmas.Option.{same_Some, some_pair_parts, option_and_then_some}
 use Rattle.std.proofs.lemmas.List.Sums.{sum_by-cons}

@@ -96,5 +96,5 @@ pub page_rows : (lines : List Line) (height : ℕ) (pages : List Cut) (r : ℕ) 
 page_rows lines height pages r h = (
   some_row lines height pages r h (page_of pages r) refl,
   (λ high. ap is_some (position_from-zero (holds_row r) pages)
-  ∙ found_from lines height 0 0 pages r h (omega arith) high),
+      ∙ found_from lines height 0 0 pages r h (omega arith) high),
 )
