@@ -64,7 +64,7 @@ pub record IsFound (test : Item → Bool) (from : ℕ) (items : List Item) (e : 
   pub begins : e.from ≡ from + cells_across front
   pub ends : e.to ≡ e.from + item_cells item
 
-found_on : (test : Item → Bool) (from : ℕ) (items : List Item) (e : Extent) → extent_on test from items ≡ Some e
+pub found_on : (test : Item → Bool) (from : ℕ) (items : List Item) (e : Extent) → extent_on test from items ≡ Some e
     → IsFound test from items e
 found_on test from [] e h = absurd cc
 found_on test from (x ∷ xs) e h = pick (test x) refl h (found_on test (from + item_cells x) xs e)

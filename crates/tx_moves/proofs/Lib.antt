@@ -1,3 +1,4 @@
 mod Numbering
 mod Finding
 mod Covering
+mod Seeing

@@ -1,5 +1,5 @@
 -- To which place a vertical move goes.
-use Rattle.std.specs.Prelude.{ℕ, nat_lt, Bool, false, List, [], ◌∷◌, take, Option, Some, None, option_and_then, slice_get}
+use Rattle.std.specs.Prelude.{◌≡◌, ℕ, ◌≤◌, nat_lt, Bool, false, List, [], ◌∷◌, take, Option, Some, None, option_and_then, slice_get}
 use Rattle.std.specs.Prelude.{if◌then◌else◌}
 use Rattle.std.specs.Option.{option_map_or}
 use Rattle.tx_tree.specs.declared.places.Place.{Place}
@@ -7,7 +7,7 @@ use Rattle.tx_layout.specs.declared.layout.Line.{Line}
 use Rattle.tx_view_form.specs.Views.{UnitView}
 use Rattle.tx_view_form.specs.Cells.{item_number, row_in}
 use Rattle.tx_view_form.specs.Positions.{Mark, marks_of, place_on}
-use Rattle.tx_moves.specs.Rows.{whole_place, start_place, row_of}
+use Rattle.tx_moves.specs.Rows.{whole_place, start_place, stop_place, row_of}
 
 -- the place at a column of a row, by the clusters of this row alone
 abbrev pub place_alone : List ℕ → Line → ℕ → Place
@@ -47,3 +47,25 @@ stop_in xs r x i goal =
 -- later row, it is the start of that last cluster. None where the row has no mark.
 abbrev pub stop_on : List UnitView → ℕ → ℕ → Option Place
 stop_on xs r goal = option_and_then (λ p. stop_in xs r p.0 p.1 goal) (row_in xs r)
+
+-- ---- what laws say of it
+
+-- this line of a unit with this path is the row
+pub record IsRowOf (xs : List UnitView) (r : ℕ) (path : List ℕ) (line : Line) : Type 0 where
+  pub unit : UnitView
+  pub number : ℕ
+  pub there : row_in xs r ≡ Some (unit, number)
+  pub has_path : unit.path ≡ Some path
+  pub is : slice_get unit.lines number ≡ Some line
+
+-- the place is drawn on this row or above
+pub record IsDrawnUpTo (xs : List UnitView) (at : Place) (r : ℕ) : Type 0 where
+  pub row : ℕ
+  pub column : ℕ
+  pub drawn : row_of xs at ≡ Some (row, column)
+  pub up_to : row ≤ r
+
+-- where a move goes that keeps a column after the last cluster of a row
+abbrev pub end_on : List UnitView → ℕ → List ℕ → Mark → Place
+end_on xs r path m =
+    if is_past r (row_of xs (stop_place path m)) then start_place path m else stop_place path m

@@ -3,6 +3,8 @@
 
 mod paging;
 mod rows;
+mod stops;
 
 pub use paging::{page_law, page_of};
 pub use rows::row_laws;
+pub use stops::stop_laws;
