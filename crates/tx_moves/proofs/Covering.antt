@@ -92,7 +92,7 @@ none_both (x ∷ xs) ys e = absurd cc
 bare_both : (xs ys : List Item) → marks_of (xs ++ ys) ≡ [] → (marks_of xs ≡ []) × (marks_of ys ≡ [])
 bare_both xs ys e = none_both (marks_of xs) (marks_of ys) (sym (filter_map-append mark_of xs ys) ∙ e)
 
-bare_cut : (n : ℕ) (items : List Item) → marks_of items ≡ []
+pub bare_cut : (n : ℕ) (items : List Item) → marks_of items ≡ []
     → (marks_of (take n items) ≡ []) × (marks_of (drop n items) ≡ [])
 bare_cut n items e = bare_both (take n items) (drop n items) (ap marks_of (take-append-drop n items) ∙ e)
 
@@ -111,7 +111,7 @@ bare_line (x ∷ xs) zero line e h =
     subst (λ l. marks_of l.items ≡ []) same (bare_both x.items (items_on xs) e).0
 bare_line (x ∷ xs) (suc i) line e h = bare_line xs i line (bare_both x.items (items_on xs) e).1 h
 
-bare_item : (items : List Item) (k : ℕ) → marks_of items ≡ [] → option_and_then mark_of (slice_get items k) ≡ None
+pub bare_item : (items : List Item) (k : ℕ) → marks_of items ≡ [] → option_and_then mark_of (slice_get items k) ≡ None
 bare_item [] k e = refl
 bare_item (x ∷ xs) zero e = by (mark_of x) refl e
   where

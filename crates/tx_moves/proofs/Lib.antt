@@ -2,3 +2,4 @@ mod Numbering
 mod Finding
 mod Covering
 mod Seeing
+mod Beyond

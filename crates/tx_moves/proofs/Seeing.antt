@@ -33,7 +33,7 @@ among_front place [] ys at h = absurd h
 among_front place (x ∷ xs) ys at (inl h) = inl h
 among_front place (x ∷ xs) ys at (inr h) = inr (among_front place xs ys at h)
 
-among_more : (place : Mark → Place) (o : Option Mark) (ms : List Mark) (at : Place) → Among place ms at
+pub among_more : (place : Mark → Place) (o : Option Mark) (ms : List Mark) (at : Place) → Among place ms at
     → Among place (cons_option o ms) at
 among_more place None ms at h = h
 among_more place (Some m) ms at h = inr h
@@ -48,6 +48,11 @@ among_item place (x ∷ xs) zero item m e has =
     subst (λ o. Among place (cons_option o (marks_of xs)) (place m)) (sym own) first
 among_item place (x ∷ xs) (suc k) item m e has =
     among_more place (mark_of x) (marks_of xs) (place m) (among_item place xs k item m e has)
+
+pub stop_some : (place : Mark → Place) (ms : List Mark) (at : Place) → Among place ms at → (p : Place)
+    → stop_by ms p ≡ Some p
+stop_some place [] at h p = absurd h
+stop_some place (m ∷ ms) at h p = refl
 
 -- ---- what is found up to a row
 
@@ -339,7 +344,7 @@ module _ (xs : List UnitView) (r : ℕ) (path : List ℕ) (line : Line) (row : I
                 up_to = ltb-false r has.found.0 near_row;
               }
 
-  stop_is : (goal : ℕ) → stop_on xs r goal ≡ stop_by (marks_of line.items) (stop_alone xs r path line goal)
+  pub stop_is : (goal : ℕ) → stop_on xs r goal ≡ stop_by (marks_of line.items) (stop_alone xs r path line goal)
   stop_is goal =
       ap (λ o. option_and_then (λ p. stop_in xs r p.0 p.1 goal) o) row.there
       ∙ ap
@@ -370,11 +375,6 @@ module _ (xs : List UnitView) (r : ℕ) (path : List ℕ) (line : Line) (row : I
       item_in true k = absurd cc
       item_in false k = k
 
-      some : (ms : List Mark) → Among (start_place path) ms (start_place path m) → (p : Place)
-          → stop_by ms p ≡ Some p
-      some [] h p = absurd h
-      some (n ∷ ns) h p = refl
-
       by : slice_get line.items (item_number line goal) ≡ Some item → stop_on xs r goal ≡ Some (start_place path m)
       by k =
           let among : Among (start_place path) (marks_of line.items) (start_place path m) =
@@ -384,7 +384,8 @@ module _ (xs : List UnitView) (r : ℕ) (path : List ℕ) (line : Line) (row : I
           ap whole_place (mark_covers path [] [] line goal item m e has) in
           let near_row : is_past r (row_of xs (place_alone path line goal)) ≡ false =
           ap (λ p. is_past r (row_of xs p)) at ∙ ap (is_past r) drawn.drawn ∙ le-ltb r drawn.row drawn.up_to in
-          stop_is goal ∙ some (marks_of line.items) among (stop_alone xs r path line goal)
+          stop_is goal
+          ∙ stop_some (start_place path) (marks_of line.items) (start_place path m) among (stop_alone xs r path line goal)
           ∙ ap (λ b. Some (cond b (last_start path (place_alone path line goal)
           (marks_of (take (item_number line goal) line.items))) (place_alone path line goal))) near_row
           ∙ ap Some at

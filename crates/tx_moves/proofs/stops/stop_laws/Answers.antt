@@ -1,4 +1,5 @@
 use Rattle.tx_moves.proofs.Seeing.{stop_row, covered_stop, no_stop}
+use Rattle.tx_moves.proofs.Beyond.{stop_after}
 use Rattle.tx_moves.proofs.stops.stop_laws.Goals as goal
 
 pub returns-clause-up_to : goal.returns-clause-up_to
@@ -9,3 +10,6 @@ returns-clause-covered c = λ xs r goal path line item m row e has. covered_stop
 
 pub returns-clause-none : goal.returns-clause-none
 returns-clause-none c = λ xs r goal path line row none. no_stop xs r path line row goal none
+
+pub returns-clause-after : goal.returns-clause-after
+returns-clause-after c = stop_after
