@@ -3,3 +3,6 @@ mod Finding
 mod Covering
 mod Seeing
 mod Beyond
+mod Parted
+mod OnLines
+mod Stopping

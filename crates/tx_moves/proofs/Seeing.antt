@@ -28,7 +28,7 @@ abbrev pub Among : (Mark → Place) → List Mark → Place → Type 0
 Among place [] at = ⊥
 Among place (m ∷ ms) at = (place m ≡ at) ⊎ Among place ms at
 
-among_front : (place : Mark → Place) (xs ys : List Mark) (at : Place) → Among place xs at → Among place (xs ++ ys) at
+pub among_front : (place : Mark → Place) (xs ys : List Mark) (at : Place) → Among place xs at → Among place (xs ++ ys) at
 among_front place [] ys at h = absurd h
 among_front place (x ∷ xs) ys at (inl h) = inl h
 among_front place (x ∷ xs) ys at (inr h) = inr (among_front place xs ys at h)
@@ -189,13 +189,13 @@ record HasRow (xs : List UnitView) (at : Place) : Type 0 where
   is : row_of xs at ≡ Some found
 
 -- the place at a column of a row alone is the end of a cluster, and one is before the column
-record IsAfter (path : List ℕ) (line : Line) (goal : ℕ) : Type 0 where
-  ends : Among (stop_place path) (marks_of line.items) (place_alone path line goal)
+pub record IsAfter (path : List ℕ) (line : Line) (goal : ℕ) : Type 0 where
+  pub ends : Among (stop_place path) (marks_of line.items) (place_alone path line goal)
   first : Mark
   others : List Mark
   before : marks_of (take (item_number line goal) line.items) ≡ first ∷ others
 
-last_among : (path : List ℕ) (other : Place) (m : Mark) (ms : List Mark)
+pub last_among : (path : List ℕ) (other : Place) (m : Mark) (ms : List Mark)
     → Among (start_place path) (m ∷ ms) (last_start path other (m ∷ ms))
 last_among path other m [] = inl refl
 last_among path other m (k ∷ ks) = inr (last_among path (start_place path m) k ks)
@@ -214,12 +214,12 @@ near path (m ∷ []) after n ns e = inr (inl refl, (m, [], refl))
 near path (m ∷ (k ∷ ks)) after n ns e =
     ⊎_elim (λ a. inl (inr a)) (λ b. inr (inr b.0, (m, k ∷ ks, refl))) (near path (k ∷ ks) after k (ks ++ after) refl)
 
-parts_of : (line : Line) (n : ℕ) → marks_of (take n line.items) ++ marks_of (drop n line.items) ≡ marks_of line.items
+pub parts_of : (line : Line) (n : ℕ) → marks_of (take n line.items) ++ marks_of (drop n line.items) ≡ marks_of line.items
 parts_of line n =
     sym (filter_map-append mark_of (take n line.items) (drop n line.items))
     ∙ ap marks_of (take-append-drop n line.items)
 
-placed : (path : List ℕ) (line : Line) (goal : ℕ) (n : Mark) (ns : List Mark) → marks_of line.items ≡ n ∷ ns
+pub placed : (path : List ℕ) (line : Line) (goal : ℕ) (n : Mark) (ns : List Mark) → marks_of line.items ≡ n ∷ ns
     → Among (start_place path) (marks_of line.items) (place_alone path line goal) ⊎ IsAfter path line goal
 placed path line goal n ns some = by (option_and_then mark_of (item_at line goal)) refl
   where

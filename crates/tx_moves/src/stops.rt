@@ -1,18 +1,23 @@
 // Laws of the place on a row.
-ghost use Rattle.std.specs.Prelude.{◌≡◌, ◌+◌, ◌≤◌, ◌∷◌, ◌++◌, ℕ, List, [], Some, None};
+ghost use Rattle.std.specs.Prelude.{◌≡◌, ◌+◌, ◌≤◌, ◌∷◌, ◌++◌, ℕ, List, [], Some, None, true};
+ghost use Rattle.std.specs.List.{list_any};
+ghost use Rattle.tx_tree.specs.SamePlaces.{same_place};
 ghost use Rattle.tx_tree.specs.declared.places.Place.{Place};
+ghost use Rattle.tx_doc.specs.declared.buffer.Buffer.{Buffer};
 ghost use Rattle.tx_items.specs.declared.drawing.Item.{Item};
 ghost use Rattle.tx_items.specs.Cells.{item_cells, cells_across};
 ghost use Rattle.tx_layout.specs.declared.layout.Line.{Line};
-ghost use Rattle.tx_view_form.specs.Views.{UnitView};
+ghost use Rattle.tx_view_form.specs.Views.{UnitView, WideView, IsView};
 ghost use Rattle.tx_view_form.specs.Cells.{item_at};
 ghost use Rattle.tx_view_form.specs.Positions.{Mark, mark_of, marks_of};
+ghost use Rattle.tx_view_form.specs.Stops.{stops_of};
 ghost use Rattle.tx_moves.specs.Rows.{start_place};
 ghost use Rattle.tx_moves.specs.RowStops.{stop_on, end_on, IsRowOf, IsDrawnUpTo};
 
 /// A law: the place on a row is drawn on that row or above. Where a cluster with a place covers the column, it is where
 /// that cluster begins. A column after the last such cluster gives its end, or its start where a cluster on a later row
-/// begins at that end. A row without such a cluster has none.
+/// begins at that end. In a view it is
+/// one of the stops. A row without such a cluster has none.
 pub fn stop_laws()
     ensures up_to { (units : List UnitView) (r goal : ℕ) (at : Place) → stop_on units r goal ≡ Some at →
         IsDrawnUpTo units at r }
@@ -23,6 +28,9 @@ pub fn stop_laws()
         (item : Item) (m : Mark) → IsRowOf units r path line → line.items ≡ front ++ item ∷ back →
         mark_of item ≡ Some m → marks_of back ≡ [] → line.indent + cells_across front + item_cells item ≤ goal →
         stop_on units r goal ≡ Some (end_on units r path m) }
+    ensures stops { (buffers : List Buffer) (width height r goal : ℕ) (v : WideView) (at : Place) →
+        IsView buffers width height v → stop_on v.units r goal ≡ Some at →
+        list_any (same_place at) (stops_of v.units) ≡ true }
     ensures none { (units : List UnitView) (r goal : ℕ) (path : List ℕ) (line : Line) →
         IsRowOf units r path line → marks_of line.items ≡ [] → stop_on units r goal ≡ None }
 {}

@@ -1,5 +1,6 @@
 use Rattle.tx_moves.proofs.Seeing.{stop_row, covered_stop, no_stop}
 use Rattle.tx_moves.proofs.Beyond.{stop_after}
+use Rattle.tx_moves.proofs.Stopping.{stop_among}
 use Rattle.tx_moves.proofs.stops.stop_laws.Goals as goal
 
 pub returns-clause-up_to : goal.returns-clause-up_to
@@ -13,3 +14,6 @@ returns-clause-none c = λ xs r goal path line row none. no_stop xs r path line 
 
 pub returns-clause-after : goal.returns-clause-after
 returns-clause-after c = stop_after
+
+pub returns-clause-stops : goal.returns-clause-stops
+returns-clause-stops c = stop_among
