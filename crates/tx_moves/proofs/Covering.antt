@@ -144,13 +144,15 @@ bare_place path above below line c up here down =
     ap (λ o. place_by o path before after) (bare_at_column line c here)
     ∙ ap (λ ms. nearest path ms after) no_before ∙ ap (λ ms. nearest path [] ms) no_after
 
-record IsBare (at : Place) (path : List ℕ) (lines : List Line) (e : Extent) : Type 0 where
-  line : Line
-  there : slice_get lines e.row ≡ Some line
-  none : marks_of (items_on lines) ≡ []
-  is : at ≡ whole_place (unit_place path)
+pub record IsBare (at : Place) (path : List ℕ) (lines : List Line) (e : Extent) : Type 0 where
+  pub line : Line
+  pub there : slice_get lines e.row ≡ Some line
+  pub none : marks_of (items_on lines) ≡ []
+  pub is : at ≡ whole_place (unit_place path)
+  pub from : e.from ≡ line.indent
+  pub to : e.to ≡ line.indent
 
-bared : (at : Place) (path : List ℕ) (lines : List Line) (e : Extent) → bare_in at path lines ≡ Some e
+pub bared : (at : Place) (path : List ℕ) (lines : List Line) (e : Extent) → bare_in at path lines ≡ Some e
     → IsBare at path lines e
 bared at path lines e = by (marks_of (items_on lines)) refl lines refl
   where
@@ -168,6 +170,8 @@ bared at path lines e = by (marks_of (items_on lines)) refl lines refl
           there = ap (λ l. slice_get l 0) are;
           none = none;
           is = same_is at (whole_place (unit_place path)) q;
+          from = refl;
+          to = refl;
         })
 
     by : (ms : List Mark) → marks_of (items_on lines) ≡ ms → (all : List Line) → lines ≡ all
@@ -177,14 +181,15 @@ bared at path lines e = by (marks_of (items_on lines)) refl lines refl
     by [] q (line ∷ others) are h =
         pick line others are q (same_place at (whole_place (unit_place path))) refl h
 
+pub bare_on_lines : (at : Place) → IsOnLines (bare_in at)
+bare_on_lines at path lines d found =
+    let bare : IsBare at path lines d = bared at path lines d found in
+    slice_get_within lines d.row bare.line bare.there
+
 pub bare_there : (xs : List UnitView) (width : ℕ) (at : Place) (e : Extent) → bare_at xs at ≡ Some e → e.from < width
     → option_map whole_place (position_in xs width e.row e.from) ≡ Some at
 bare_there xs width at e h narrow =
-    let on_lines : IsOnLines (bare_in at) =
-    λ path lines d found.
-    let bare : IsBare at path lines d = bared at path lines d found in
-    slice_get_within lines d.row bare.line bare.there in
-    let unit : IsFoundAt (bare_in at) xs e = found_at (bare_in at) on_lines xs e h in
+    let unit : IsFoundAt (bare_in at) xs e = found_at (bare_in at) (bare_on_lines at) xs e h in
     let path : List ℕ = unit.path in
     let lines : List Line = unit.unit.lines in
     let i : ℕ = unit.inner.row in

@@ -6,3 +6,4 @@ mod Beyond
 mod Parted
 mod OnLines
 mod Stopping
+mod Bounding

@@ -209,10 +209,10 @@ once_has so_far (p ∷ ps) at h =
 -- ---- units
 
 -- the lines of the unit are those of its paragraphs
-abbrev IsLaid : ℕ → UnitView → Type 0
+abbrev pub IsLaid : ℕ → UnitView → Type 0
 IsLaid width x = AreLines width x.paragraphs x.lines
 
-all_laid : (width : ℕ) (m : Moment) (us : List DocUnit) (xs : List UnitView) → AreShown width m us xs
+pub all_laid : (width : ℕ) (m : Moment) (us : List DocUnit) (xs : List UnitView) → AreShown width m us xs
     → AllByRecursion (IsLaid width) xs
 all_laid width m [] [] h = tt
 all_laid width m [] (x ∷ xs) h = absurd h

@@ -1,5 +1,5 @@
 -- At which row and column a place of the document is drawn.
-use Rattle.std.specs.Prelude.{ℕ, ◌+◌, Bool, false, List, [], ◌∷◌, length, Option, Some, None, option_and_then}
+use Rattle.std.specs.Prelude.{◌≡◌, ℕ, ◌+◌, Bool, false, List, [], ◌∷◌, ◌++◌, length, Option, Some, None, option_and_then}
 use Rattle.std.specs.Prelude.{if◌then◌else◌}
 use Rattle.std.specs.Option.{option_map, option_map_or, option_or}
 use Rattle.tx_tree.specs.SamePlaces.{same_place}
@@ -9,6 +9,7 @@ use Rattle.tx_items.specs.declared.drawing.Item.{Item}
 use Rattle.tx_items.specs.Cells.{item_cells}
 use Rattle.tx_layout.specs.declared.layout.Line.{Line}
 use Rattle.tx_view_form.specs.Views.{UnitView}
+use Rattle.tx_view_form.specs.Cells.{row_in}
 use Rattle.tx_view_form.specs.Positions.{Mark, mark_of, marks_of, items_on, unit_place, whole_path}
 use Rattle.tx_view_form.specs.Stops.{mark_place}
 
@@ -96,3 +97,13 @@ row_of xs at =
     option_or (option_map (λ e. (e.row, e.from)) (begun_at xs at))
     (option_or (option_map (λ e. (e.row, e.to)) (ended_at xs at))
     (option_map (λ e. (e.row, e.from)) (bare_at xs at)))
+
+-- the row is one of the unit whose path is that of the place, or begins it
+pub record IsInUnit (xs : List UnitView) (at : Place) (r : ℕ) : Type 0 where
+  pub unit : UnitView
+  pub number : ℕ
+  pub path : List ℕ
+  pub more : List ℕ
+  pub there : row_in xs r ≡ Some (unit, number)
+  pub has_path : unit.path ≡ Some path
+  pub is : at.path ≡ path ++ more
