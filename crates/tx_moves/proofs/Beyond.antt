@@ -1,7 +1,7 @@
 -- A column after the last cluster of a row.
-use Rattle.std.proofs.Common.{◌≡◌, ℕ, zero, suc, ◌+◌, ◌≤◌, Bool, true, false, cond, List, [], ◌∷◌, ◌++◌, take, drop}
+use Rattle.std.proofs.Common.{◌≡◌, ℕ, suc, ◌+◌, ◌≤◌, Bool, true, false, cond, List, [], ◌∷◌, ◌++◌, take, drop}
 use Rattle.std.proofs.Common.{Option, Some, None, refl, sym, ap, ◌∙◌, arith, le-leb, inl, subst}
-use Rattle.std.specs.Prelude.{slice_get, option_and_then, nat_lt, nat_le}
+use Rattle.std.specs.Prelude.{slice_get, option_and_then, nat_lt}
 use Rattle.std.specs.List.{cons_option}
 use Rattle.std.proofs.lemmas.Option.{same_Some}
 use Rattle.std.proofs.lemmas.List.Sums.{sum_by-cons}
@@ -10,12 +10,12 @@ use Rattle.tx_items.specs.declared.drawing.Item.{Item}
 use Rattle.tx_items.specs.Cells.{item_cells, cells_across}
 use Rattle.tx_layout.specs.declared.layout.Line.{Line}
 use Rattle.tx_view_form.specs.Views.{UnitView}
-use Rattle.tx_view_form.specs.Cells.{items_before, item_number, item_at}
+use Rattle.tx_view_form.specs.Cells.{items_before, item_number}
 use Rattle.tx_view_form.specs.Positions.{Mark, mark_of, marks_of, stop_of, nearest, place_by}
 use Rattle.tx_moves.specs.Rows.{whole_place, start_place, stop_place, row_of}
-use Rattle.tx_moves.specs.RowStops.{place_alone, is_past, last_start, stop_alone, stop_by, stop_on, IsRowOf, end_on}
+use Rattle.tx_moves.specs.RowStops.{place_alone, is_past, last_start, stop_alone, stop_on, IsRowOf, IsDrawnUpTo, end_on}
 use Rattle.tx_moves.proofs.Covering.{bare_cut, bare_item}
-use Rattle.tx_moves.proofs.Seeing.{Among, among_more, stop_is, stop_some}
+use Rattle.tx_moves.proofs.Seeing.{Among, among_more, starts_drawn, stop_is, stop_some}
 
 among_in : (place : Mark → Place) (front back : List Item) (item : Item) (m : Mark) → mark_of item ≡ Some m
     → Among place (marks_of (front ++ item ∷ back)) (place m)
@@ -108,3 +108,11 @@ stop_after xs r goal path line front back item m row are has bare low =
         → option_and_then mark_of (cond b None (slice_get line.items (item_number line goal))) ≡ None
     uncovered true e = refl
     uncovered false e = e
+
+pub start_drawn : (xs : List UnitView) (r : ℕ) (path : List ℕ) (line : Line) (front back : List Item) (item : Item)
+    (m : Mark) → IsRowOf xs r path line → line.items ≡ front ++ item ∷ back → mark_of item ≡ Some m
+    → IsDrawnUpTo xs (start_place path m) r
+start_drawn xs r path line front back item m row are has =
+    starts_drawn xs r path line row (start_place path m)
+    (subst (λ l. Among (start_place path) (marks_of l) (start_place path m)) (sym are)
+    (among_in (start_place path) front back item m has))

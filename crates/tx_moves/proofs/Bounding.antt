@@ -1,7 +1,7 @@
 -- In which unit a place has its row, and that its column is within the page.
 use Rattle.std.proofs.Common.{◌≡◌, ℕ, ◌+◌, ◌-◌, ◌≤◌, Bool, true, false, cond, List, [], ◌∷◌, ◌++◌, length, append-nil}
 use Rattle.std.proofs.Common.{Option, Some, None, refl, sym, ap, ◌∙◌, subst, arith}
-use Rattle.std.specs.Prelude.{All, slice_get, nat_lt}
+use Rattle.std.specs.Prelude.{All, nat_lt}
 use Rattle.std.specs.List.{AllByRecursion}
 use Rattle.std.specs.Option.{option_map, option_or}
 use Rattle.std.proofs.lemmas.List.Elements.{All-nil, All-append}
@@ -18,8 +18,7 @@ use Rattle.tx_layout.specs.Shapes.{IsShape}
 use Rattle.tx_view_form.specs.Outcomes.{beginning}
 use Rattle.tx_view_form.specs.Views.{UnitView, AreLines, WideView, IsView}
 use Rattle.tx_view_form.specs.Cells.{row_in}
-use Rattle.tx_view_form.specs.Positions.{Mark, mark_of}
-use Rattle.tx_moves.specs.Rows.{start_place, stop_place, has_place, Extent, extent_in, begun_in, ended_in, bare_in}
+use Rattle.tx_moves.specs.Rows.{start_place, stop_place, has_place, Extent, begun_in, ended_in, bare_in}
 use Rattle.tx_moves.specs.Rows.{first_in, begun_at, ended_at, bare_at, row_of, IsInUnit}
 use Rattle.tx_moves.proofs.Finding.{IsMarked, marked, IsFoundIn, found_in, IsOnLines, IsFoundAt, found_at}
 use Rattle.tx_moves.proofs.Covering.{in_lines, IsBare, bared, bare_on_lines}
@@ -202,4 +201,11 @@ pub row_within : OnPage → (buffers : List Buffer) (width height : ℕ) (v : Wi
     → IsView buffers width height v → row_of v.units at ≡ Some p → p.1 ≤ width
 row_within page buffers width height v at p h e =
     let b : IsRowBound v.units at p = row_bound v.units at p e in
+    b.within width (units_narrow page width v.units (all_laid width beginning (units buffers) v.units h.shown))
+
+pub cluster_within : OnPage → (buffers : List Buffer) (width height : ℕ) (v : WideView) (at : Place) (e : Extent)
+    → IsView buffers width height v → begun_at v.units at ≡ Some e → e.to ≤ width
+cluster_within page buffers width height v at e h k =
+    let b : IsBound v.units at e =
+    bound (begun_in at) at (λ path lines. in_lines (has_place (start_place path) at) lines) (begun_held at) v.units e k in
     b.within width (units_narrow page width v.units (all_laid width beginning (units buffers) v.units h.shown))

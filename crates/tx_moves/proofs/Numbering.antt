@@ -1,16 +1,16 @@
 -- A row is on one page.
-use Rattle.std.proofs.Common.{◌≡◌, ℕ, zero, suc, ◌+◌, ◌<◌, ◌≤◌, ◌↔◌, Bool, true, false, cond, ◌&&◌, List, [], ◌∷◌, length}
-use Rattle.std.proofs.Common.{get_or, Option, Some, None, refl, sym, ap, ◌∙◌, subst, arith, inl, inr, ltb, leb}
+use Rattle.std.proofs.Common.{◌≡◌, ℕ, zero, suc, ◌+◌, ◌<◌, ◌≤◌, ◌↔◌, true, false, cond, List, [], ◌∷◌, length}
+use Rattle.std.proofs.Common.{get_or, Option, Some, None, refl, sym, ap, ◌∙◌, subst, arith, inl, inr}
 use Rattle.std.specs.Prelude.{slice_get, nat_le, nat_lt, IsSome}
 use Rattle.std.specs.Option.{is_some}
-use Rattle.std.specs.List.{position, position_from}
+use Rattle.std.specs.List.{position_from}
 use Rattle.std.proofs.lemmas.Bool.{ltb-true, leb-true, lt-ltb, le-ltb, le-leb, and_parts, and_from, and_right, cases_lt}
 use Rattle.std.proofs.lemmas.Option.{same_Some, slice_get-get_or}
 use Rattle.std.proofs.lemmas.List.Quantifiers.{position-Some}
 use Rattle.std.proofs.lemmas.Iterator.Adapters.{position_from-zero}
 use Rattle.tx_lines.specs.declared.cut.Cut.{Cut}
 use Rattle.tx_layout.specs.declared.layout.Line.{Line}
-use Rattle.tx_layout.specs.Paging.{IsPage, PagesFrom}
+use Rattle.tx_layout.specs.Paging.{PagesFrom}
 use Rattle.tx_moves.specs.PageNumbers.{holds_row, page_of, IsOnPage}
 
 pub on_page : (pages : List Cut) (r k : ℕ) → page_of pages r ≡ Some k → IsOnPage pages r k

@@ -1,6 +1,6 @@
 -- What is on a row is found there or above.
 use Rattle.std.proofs.Common.{◌≡◌, ℕ, zero, suc, ◌+◌, ◌-◌, ◌<◌, ◌≤◌, Bool, true, false, cond, List, [], ◌∷◌, ◌++◌, length}
-use Rattle.std.proofs.Common.{Option, Some, None, refl, sym, ap, ◌∙◌, subst, arith, le-ltb, ltb-true, ltb-false, inl, inr}
+use Rattle.std.proofs.Common.{Option, Some, None, refl, sym, ap, ◌∙◌, subst, arith, le-ltb, ltb-false, inl, inr}
 use Rattle.std.proofs.Common.{take, drop, take-append-drop, append-nil, ⊎_elim}
 use Rattle.std.specs.Prelude.{slice_get, option_and_then, nat_lt, ◌⊎◌}
 use Rattle.std.specs.List.{cons_option}
@@ -14,7 +14,7 @@ use Rattle.tx_items.specs.Cells.{item_cells}
 use Rattle.tx_layout.specs.declared.layout.Line.{Line}
 use Rattle.tx_view_form.specs.Views.{UnitView}
 use Rattle.tx_view_form.specs.Cells.{row_in, item_number, item_at}
-use Rattle.tx_view_form.specs.Positions.{Mark, mark_of, marks_of, items_on, nearest, place_by, place_on}
+use Rattle.tx_view_form.specs.Positions.{Mark, mark_of, marks_of, nearest, place_by}
 use Rattle.tx_moves.specs.Rows.{has_place, Extent, lower, extent_on, extent_in, first_in, whole_place, start_place}
 use Rattle.tx_moves.specs.Rows.{stop_place, begun_in, begun_at, ended_in, ended_at, bare_at, row_of}
 use Rattle.tx_moves.specs.RowStops.{place_alone, is_past, last_start, stop_alone, stop_by, stop_in, stop_on, IsRowOf}

@@ -1,5 +1,5 @@
 -- The place on a row is one of the stops.
-use Rattle.std.proofs.Common.{◌≡◌, ℕ, zero, suc, ◌-◌, ◌<◌, Bool, true, false, cond, ◌||◌, List, [], ◌∷◌, ◌++◌, length}
+use Rattle.std.proofs.Common.{◌≡◌, ℕ, zero, suc, ◌-◌, Bool, true, false, cond, ◌||◌, List, [], ◌∷◌, ◌++◌, length}
 use Rattle.std.proofs.Common.{get_or, Option, Some, None, refl, sym, ap, ◌∙◌, subst, inl, inr, ⊎_elim, take, drop}
 use Rattle.std.specs.Prelude.{All, slice_get, option_and_then, nat_lt, ◌⊎◌}
 use Rattle.std.specs.List.{AllByRecursion, cons_option, flat_map, list_any, fold}
@@ -27,7 +27,7 @@ use Rattle.tx_view_form.specs.Stops.{stops_by, unit_stops, put_place, stops_of}
 use Rattle.tx_moves.specs.Rows.{start_place, stop_place, row_of}
 use Rattle.tx_moves.specs.RowStops.{place_alone, is_past, last_start, stop_alone, stop_by, stop_in, stop_on}
 use Rattle.tx_moves.proofs.Finding.{same_is, same_self}
-use Rattle.tx_moves.proofs.Seeing.{Among, among_front, among_item, last_among, IsAfter, placed, parts_of}
+use Rattle.tx_moves.proofs.Seeing.{Among, among_front, among_item, last_among, placed, parts_of}
 use Rattle.tx_moves.proofs.OnLines.{lines_hold}
 
 -- ---- the place on a row is a start or an end on it

@@ -11,12 +11,15 @@ use tx_layout::within_page;
 use tx_view_form::cell_law;
 
 /// A law: where a place has a row by a cluster that begins there, the position at each column of that cluster is the
-/// place. Where it has a row as that of a unit, the position there is the place. The row is
-/// one of the unit whose path is that of the place or begins it, and in a view the column is at most the page's width.
+/// place. In a view all these columns are on the page. Where the place has a row as that of a unit, the position there
+/// is the place. The row is one of the unit whose path is that of the place or begins it, and in a view the column is at
+/// most the page's width.
 pub fn row_laws()
     ensures begun { (units : List UnitView) (width c : ℕ) (at : Place) (e : Extent) →
         begun_at units at ≡ Some e → e.from ≤ c → c < e.to → c < width →
         option_map whole_place (position_in units width e.row c) ≡ Some at }
+    ensures reach { (buffers : List Buffer) (width height : ℕ) (v : WideView) (at : Place) (e : Extent) →
+        IsView buffers width height v → begun_at v.units at ≡ Some e → e.to ≤ width }
     ensures bare { (units : List UnitView) (width : ℕ) (at : Place) (e : Extent) →
         bare_at units at ≡ Some e → e.from < width →
         option_map whole_place (position_in units width e.row e.from) ≡ Some at }

@@ -14,11 +14,14 @@ ghost use Rattle.tx_view_form.specs.Stops.{stops_of};
 ghost use Rattle.tx_moves.specs.Rows.{start_place};
 ghost use Rattle.tx_moves.specs.RowStops.{stop_on, end_on, IsRowOf, IsDrawnUpTo};
 
-/// A law: the place on a row is drawn on that row or above. Where a cluster with a place covers the column, it is where
+/// A law: where a cluster with a place begins is drawn on its row or above, and so is the place on a row. Where a cluster with a place covers the column, it is where
 /// that cluster begins. A column after the last such cluster gives its end, or its start where a cluster on a later row
 /// begins at that end. In a view it is
 /// one of the stops. A row without such a cluster has none.
 pub fn stop_laws()
+    ensures starts { (units : List UnitView) (r : ℕ) (path : List ℕ) (line : Line) (front back : List Item)
+        (item : Item) (m : Mark) → IsRowOf units r path line → line.items ≡ front ++ item ∷ back →
+        mark_of item ≡ Some m → IsDrawnUpTo units (start_place path m) r }
     ensures up_to { (units : List UnitView) (r goal : ℕ) (at : Place) → stop_on units r goal ≡ Some at →
         IsDrawnUpTo units at r }
     ensures covered { (units : List UnitView) (r goal : ℕ) (path : List ℕ) (line : Line) (item : Item) (m : Mark) →

@@ -1,5 +1,5 @@
 use Rattle.tx_moves.proofs.Seeing.{stop_row, covered_stop, no_stop}
-use Rattle.tx_moves.proofs.Beyond.{stop_after}
+use Rattle.tx_moves.proofs.Beyond.{start_drawn, stop_after}
 use Rattle.tx_moves.proofs.Stopping.{stop_among}
 use Rattle.tx_moves.proofs.stops.stop_laws.Goals as goal
 
@@ -17,3 +17,6 @@ returns-clause-after c = stop_after
 
 pub returns-clause-stops : goal.returns-clause-stops
 returns-clause-stops c = stop_among
+
+pub returns-clause-starts : goal.returns-clause-starts
+returns-clause-starts c = start_drawn
