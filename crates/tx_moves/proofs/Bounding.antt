@@ -164,7 +164,8 @@ row_bound xs at p h = by (begun_at xs at) refl (ended_at xs at) refl (bare_at xs
         → IsRowBound xs at p
     by (Some e) i q j s k same =
         let b : IsBound xs at e =
-        bound (begun_in at) at (λ path lines. in_lines (has_place (start_place path) at) lines) (begun_held at) xs e i in
+        bound (begun_in at) at (λ path lines. in_lines (has_place (start_place path) at) lines) (begun_held at) xs e
+        i in
         subst (IsRowBound xs at) (same_Some (e.row, e.from) p same) (to_start e b)
     by None i (Some e) j s k same =
         let b : IsBound xs at e =
@@ -207,5 +208,6 @@ pub cluster_within : OnPage → (buffers : List Buffer) (width height : ℕ) (v 
     → IsView buffers width height v → begun_at v.units at ≡ Some e → e.to ≤ width
 cluster_within page buffers width height v at e h k =
     let b : IsBound v.units at e =
-    bound (begun_in at) at (λ path lines. in_lines (has_place (start_place path) at) lines) (begun_held at) v.units e k in
+    bound (begun_in at) at (λ path lines. in_lines (has_place (start_place path) at) lines) (begun_held at) v.units e
+    k in
     b.within width (units_narrow page width v.units (all_laid width beginning (units buffers) v.units h.shown))

@@ -1,6 +1,7 @@
 -- At each column of the first cluster that begins at a place, and at the row of a bare unit, is that place.
 use Rattle.std.proofs.Common.{◌≡◌, ℕ, zero, suc, ◌+◌, ◌<◌, ◌≤◌, Bool, true, false, cond, List, [], ◌∷◌, ◌++◌, length}
-use Rattle.std.proofs.Common.{Option, Some, None, refl, sym, ap, ◌∙◌, subst, arith, lt-ltb, take, drop, take-append-drop}
+use Rattle.std.proofs.Common.{Option, Some, None, refl, sym, ap, ◌∙◌, subst, arith, lt-ltb, take, drop}
+use Rattle.std.proofs.Common.{take-append-drop}
 use Rattle.std.specs.Prelude.{slice_get, option_and_then, nat_lt}
 use Rattle.std.specs.List.{cons_option}
 use Rattle.std.specs.Option.{option_map}

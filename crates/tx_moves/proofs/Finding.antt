@@ -76,7 +76,16 @@ found_on test from (x ∷ xs) e h = pick (test x) refl h (found_on test (from + 
         let d : Extent = record { row = 0; from = from; to = from + item_cells x } in
         let same : d ≡ e = same_Some d e k in
         subst (IsFound test from (x ∷ xs)) same
-        (record { front = []; item = x; back = xs; are = refl; passes = t; row = refl; begins = omega arith; ends = refl })
+        (record {
+          front = [];
+          item = x;
+          back = xs;
+          are = refl;
+          passes = t;
+          row = refl;
+          begins = omega arith;
+          ends = refl;
+        })
     pick false t k more =
         let rest : IsFound test (from + item_cells x) xs e = more k in
         let sums = sum_by-cons item_cells x rest.front in

@@ -1,6 +1,6 @@
 -- What is on a row is found there or above.
-use Rattle.std.proofs.Common.{◌≡◌, ℕ, zero, suc, ◌+◌, ◌-◌, ◌<◌, ◌≤◌, Bool, true, false, cond, List, [], ◌∷◌, ◌++◌, length}
-use Rattle.std.proofs.Common.{Option, Some, None, refl, sym, ap, ◌∙◌, subst, arith, le-ltb, ltb-false, inl, inr}
+use Rattle.std.proofs.Common.{◌≡◌, ℕ, zero, suc, ◌+◌, ◌-◌, ◌<◌, ◌≤◌, Bool, true, false, cond, List, [], ◌∷◌, ◌++◌}
+use Rattle.std.proofs.Common.{length, Option, Some, None, refl, sym, ap, ◌∙◌, subst, arith, le-ltb, ltb-false, inl, inr}
 use Rattle.std.proofs.Common.{take, drop, take-append-drop, append-nil, ⊎_elim}
 use Rattle.std.specs.Prelude.{slice_get, option_and_then, nat_lt, ◌⊎◌}
 use Rattle.std.specs.List.{cons_option}
@@ -28,7 +28,8 @@ abbrev pub Among : (Mark → Place) → List Mark → Place → Type 0
 Among place [] at = ⊥
 Among place (m ∷ ms) at = (place m ≡ at) ⊎ Among place ms at
 
-pub among_front : (place : Mark → Place) (xs ys : List Mark) (at : Place) → Among place xs at → Among place (xs ++ ys) at
+pub among_front : (place : Mark → Place) (xs ys : List Mark) (at : Place) → Among place xs at
+    → Among place (xs ++ ys) at
 among_front place [] ys at h = absurd h
 among_front place (x ∷ xs) ys at (inl h) = inl h
 among_front place (x ∷ xs) ys at (inr h) = inr (among_front place xs ys at h)
@@ -214,7 +215,8 @@ near path (m ∷ []) after n ns e = inr (inl refl, (m, [], refl))
 near path (m ∷ (k ∷ ks)) after n ns e =
     ⊎_elim (λ a. inl (inr a)) (λ b. inr (inr b.0, (m, k ∷ ks, refl))) (near path (k ∷ ks) after k (ks ++ after) refl)
 
-pub parts_of : (line : Line) (n : ℕ) → marks_of (take n line.items) ++ marks_of (drop n line.items) ≡ marks_of line.items
+pub parts_of : (line : Line) (n : ℕ)
+    → marks_of (take n line.items) ++ marks_of (drop n line.items) ≡ marks_of line.items
 parts_of line n =
     sym (filter_map-append mark_of (take n line.items) (drop n line.items))
     ∙ ap marks_of (take-append-drop n line.items)
@@ -351,7 +353,8 @@ module _ (xs : List UnitView) (r : ℕ) (path : List ℕ) (line : Line) (row : I
       (λ o.
       option_and_then
       (λ q.
-      option_and_then (λ l. stop_by (marks_of l.items) (stop_alone xs r q l goal)) (slice_get row.unit.lines row.number))
+      option_and_then (λ l. stop_by (marks_of l.items) (stop_alone xs r q l goal))
+      (slice_get row.unit.lines row.number))
       o)
       row.has_path
       ∙ ap (λ o. option_and_then (λ l. stop_by (marks_of l.items) (stop_alone xs r path l goal)) o) row.is
@@ -385,7 +388,8 @@ module _ (xs : List UnitView) (r : ℕ) (path : List ℕ) (line : Line) (row : I
           let near_row : is_past r (row_of xs (place_alone path line goal)) ≡ false =
           ap (λ p. is_past r (row_of xs p)) at ∙ ap (is_past r) drawn.drawn ∙ le-ltb r drawn.row drawn.up_to in
           stop_is goal
-          ∙ stop_some (start_place path) (marks_of line.items) (start_place path m) among (stop_alone xs r path line goal)
+          ∙ stop_some (start_place path) (marks_of line.items) (start_place path m) among
+          (stop_alone xs r path line goal)
           ∙ ap (λ b. Some (cond b (last_start path (place_alone path line goal)
           (marks_of (take (item_number line goal) line.items))) (place_alone path line goal))) near_row
           ∙ ap Some at

@@ -6,8 +6,8 @@ use Rattle.std.specs.List.{AllByRecursion, cons_option, flat_map, list_any, fold
 use Rattle.std.specs.Option.{option_map_or}
 use Rattle.std.proofs.lemmas.Bool.{or_cases}
 use Rattle.std.proofs.lemmas.List.Elements.{filter_map-append, All-head, All-tail}
-use Rattle.std.proofs.lemmas.Option.{same_Some, some_pair_parts, slice_get-get_or, get_or_from_slice_get, slice_get_within}
-use Rattle.std.proofs.lemmas.Option.{option_and_then_some}
+use Rattle.std.proofs.lemmas.Option.{same_Some, some_pair_parts, slice_get-get_or, get_or_from_slice_get}
+use Rattle.std.proofs.lemmas.Option.{slice_get_within, option_and_then_some}
 use Rattle.tx_tree.specs.SamePlaces.{same_place}
 use Rattle.tx_tree.specs.declared.places.Place.{Place}
 use Rattle.tx_origin.specs.TaggedTrees.{tagged_of}

@@ -1,6 +1,6 @@
 -- To which place a vertical move goes.
-use Rattle.std.specs.Prelude.{◌≡◌, ℕ, ◌≤◌, nat_lt, Bool, false, List, [], ◌∷◌, take, Option, Some, None, option_and_then, slice_get}
-use Rattle.std.specs.Prelude.{if◌then◌else◌}
+use Rattle.std.specs.Prelude.{◌≡◌, ℕ, ◌≤◌, nat_lt, Bool, false, List, [], ◌∷◌, take, Option, Some, None}
+use Rattle.std.specs.Prelude.{option_and_then, slice_get, if◌then◌else◌}
 use Rattle.tx_tree.specs.declared.places.Place.{Place}
 use Rattle.tx_layout.specs.declared.layout.Line.{Line}
 use Rattle.tx_view_form.specs.Views.{UnitView}

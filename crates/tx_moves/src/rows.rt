@@ -12,8 +12,8 @@ use tx_view_form::cell_law;
 
 /// A law: where a place has a row by a cluster that begins there, the position at each column of that cluster is the
 /// place. In a view all these columns are on the page. Where the place has a row as that of a unit, the position there
-/// is the place. The row is one of the unit whose path is that of the place or begins it, and in a view the column is at
-/// most the page's width.
+/// is the place. The row is one of the unit whose path is that of the place or begins it. In a view the column is at
+/// most the width of the page.
 pub fn row_laws()
     ensures begun { (units : List UnitView) (width c : ℕ) (at : Place) (e : Extent) →
         begun_at units at ≡ Some e → e.from ≤ c → c < e.to → c < width →

@@ -14,10 +14,10 @@ ghost use Rattle.tx_view_form.specs.Stops.{stops_of};
 ghost use Rattle.tx_moves.specs.Rows.{start_place};
 ghost use Rattle.tx_moves.specs.RowStops.{stop_on, end_on, IsRowOf, IsDrawnUpTo};
 
-/// A law: where a cluster with a place begins is drawn on its row or above, and so is the place on a row. Where a cluster with a place covers the column, it is where
-/// that cluster begins. A column after the last such cluster gives its end, or its start where a cluster on a later row
-/// begins at that end. In a view it is
-/// one of the stops. A row without such a cluster has none.
+/// A law: where a cluster with a place begins is drawn on its row or above, and so is the place on a row. Where such a
+/// cluster covers the column, the place on the row is where that cluster begins. A column after the last such cluster
+/// gives its end, or its start where its end is drawn on a later row. In a view the place on a row is one of the stops.
+/// A row without such a cluster has none.
 pub fn stop_laws()
     ensures starts { (units : List UnitView) (r : ℕ) (path : List ℕ) (line : Line) (front back : List Item)
         (item : Item) (m : Mark) → IsRowOf units r path line → line.items ≡ front ++ item ∷ back →
