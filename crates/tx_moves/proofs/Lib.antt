@@ -1,0 +1,9 @@
+mod Numbering
+mod Finding
+mod Covering
+mod Seeing
+mod Beyond
+mod Parted
+mod OnLines
+mod Stopping
+mod Bounding

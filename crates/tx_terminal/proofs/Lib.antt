@@ -1,0 +1,4 @@
+pub mod Sequences
+pub mod Writing
+pub mod Rows
+pub mod Pages
