@@ -66,6 +66,8 @@ pub record Partway (sheller : Sheller) (old now : List Bridge) (spares : Spares)
       ≡ before + charges_by sheller start (entries_of old) (stored_parts_in old) (layers_in old) spares
   pub known : (lss : List (List TreeTrace)) → AllLayersKnown sheller m (units_in (drop i old)) lss
       → AllLayersKnown sheller start (units_in old) (layers_in (take i now) ++ lss)
+  pub front : (us : List DocUnit) (lss : List (List TreeTrace)) → AllLayersKnown sheller m us lss
+      → AllLayersKnown sheller start (units_in (take i old) ++ us) (layers_in (take i now) ++ lss)
   pub sound : All IsSoundBridge now
   pub units : units_in now ≡ units_in old
   pub sources : sources_in now ≡ sources_in old
@@ -87,6 +89,7 @@ begun sheller old spares start flag before sound settled left = record {
   flags = refl;
   steps = refl;
   known = λ lss h. h;
+  front = λ us lss h. h;
   sound = sound;
   units = refl;
   sources = refl;
@@ -125,6 +128,17 @@ get_dropped f [] zero b rest e = cc
 get_dropped f [] (suc i) b rest e = cc
 get_dropped f (x ∷ xs) zero b rest e = let same : x ≡ b = cc in ap (λ y. Some (f y)) same
 get_dropped f (x ∷ xs) (suc i) b rest e = get_dropped f xs i b rest e
+
+taken_to : (xs : List Bridge) (i : ℕ) (b : Bridge) (rest : List Bridge) → drop i xs ≡ b ∷ rest
+    → take (i + 1) xs ≡ take i xs ++ b ∷ []
+taken_to [] zero b rest e = cc
+taken_to [] (suc i) b rest e = cc
+taken_to (x ∷ xs) zero b rest e = let same : x ≡ b = cc in ap (λ y. y ∷ []) same
+taken_to (x ∷ xs) (suc i) b rest e = ap (λ ys. x ∷ ys) (taken_to xs i b rest e)
+
+units_append : (xs ys : List Bridge) → units_in (xs ++ ys) ≡ units_in xs ++ units_in ys
+units_append [] ys = refl
+units_append (x ∷ xs) ys = ap (λ us. x.unit ∷ us) (units_append xs ys)
 
 -- the unit is brought to its outcome at the moment
 pub record IsBrought (sheller : Sheller) (b y : Bridge) (m : Moment) : Type 0 where
@@ -263,6 +277,24 @@ module _ (sheller : Sheller) (old now : List Bridge) (spares : Spares) (start : 
   pub rest_next : (y : Bridge) → drop (i + 1) (slice_set now i y) ≡ drop (i + 1) old
   rest_next y = drop-set-lt (i + 1) now i y (omega arith) ∙ sym others
 
+  -- the layers of the units up to this one
+  pub front_known : (y : Bridge) (us : List DocUnit) (lss : List (List TreeTrace))
+      → UnitLayersKnown sheller m (slice_index_or now i d).unit y.layers
+      → AllLayersKnown sheller (behind m (outcome_of m (slice_index_or now i d).unit)) us lss
+      → AllLayersKnown sheller start (units_in (take (i + 1) old) ++ us)
+      (layers_in (take (i + 1) (slice_set now i y)) ++ lss)
+  unfolding b
+  front_known y us lss known left =
+      subst (λ vs. AllLayersKnown sheller start vs (layers_in (take (i + 1) (slice_set now i y)) ++ lss))
+      (sym (ap (λ bs. units_in bs ++ us) (taken_to old i b (drop (i + 1) old) ahead)
+      ∙ ap (λ vs. vs ++ us) (units_append (take i old) (b ∷ []))
+      ∙ append_assoc (units_in (take i old)) (b.unit ∷ []) us))
+      (subst (AllLayersKnown sheller start (units_in (take i old) ++ b.unit ∷ us))
+      (sym (ap (λ bs. layers_in bs ++ lss) (more_taken y)
+      ∙ ap (λ rs. rs ++ lss) (map-append (λ (w : Bridge). w.layers) (take i now) (y ∷ []))
+      ∙ append_assoc (layers_in (take i now)) (y.layers ∷ []) lss))
+      (p.front (b.unit ∷ us) (y.layers ∷ lss) (known, left)))
+
   known_next : (y : Bridge) (lss : List (List TreeTrace))
       → UnitLayersKnown sheller m (slice_index_or now i d).unit y.layers
       → AllLayersKnown sheller (behind m (outcome_of m (slice_index_or now i d).unit)) (units_in (drop (i + 1) old)) lss
@@ -362,6 +394,7 @@ module _ (sheller : Sheller) (old now : List Bridge) (spares : Spares) (start : 
             omega (arith, more, moved, was, is_charge, is_after);
         known = λ lss left. known_next y lss known
             (subst (λ n. AllLayersKnown sheller n (units_in (drop (i + 1) old)) lss) is_m left);
+        front = λ us lss left. front_known y us lss known (subst (λ n. AllLayersKnown sheller n us lss) is_m left);
         sound = All-set IsSoundBridge now i y sound p.sound;
         units = units_next y brought.unit;
         sources = sources_next y source;
@@ -375,6 +408,7 @@ Stops sheller start old now =
     (n : ℕ) × (entries_of now ≡ take n (fresh_from start (units_in old)) ++ drop n (entries_of old))
     × (stored_parts_in now ≡ take n (fresh_parts_by_from sheller start (units_in old)) ++ drop n (stored_parts_in old))
     × (drop n (layers_in now) ≡ drop n (layers_in old))
+    × AllLayersKnown sheller start (units_of (take n (entries_of old))) (take n (layers_in now))
 
 map_take : (n : ℕ) (bs : List Bridge) → length (entries_of (take n bs)) ≡ length (take n bs)
 map_take n bs = length-map (take n bs) kept_unit
@@ -430,6 +464,26 @@ parts_stopped sheller start old now i m fresh rest inside =
     ∙ ap (λ bs. take i (fresh_parts_by_from sheller start (units_in old)) ++ stored_parts_in bs) rest
     ∙ ap (λ ks. take i (fresh_parts_by_from sheller start (units_in old)) ++ ks) (drop_parts i old)
 
+take_entries : (n : ℕ) (bs : List Bridge) → entries_of (take n bs) ≡ take n (entries_of bs)
+take_entries zero bs = refl
+take_entries (suc n) [] = refl
+take_entries (suc n) (b ∷ bs) = ap (λ es. kept_unit b ∷ es) (take_entries n bs)
+
+take_layers : (n : ℕ) (bs : List Bridge) → layers_in (take n bs) ≡ take n (layers_in bs)
+take_layers zero bs = refl
+take_layers (suc n) [] = refl
+take_layers (suc n) (b ∷ bs) = ap (λ ls. b.layers ∷ ls) (take_layers n bs)
+
+-- what is known of the layers of the first n units
+front_stopped : (sheller : Sheller) (start : Moment) (old now : List Bridge) (n : ℕ)
+    → AllLayersKnown sheller start (units_in (take n old) ++ []) (layers_in (take n now) ++ [])
+    → AllLayersKnown sheller start (units_of (take n (entries_of old))) (take n (layers_in now))
+front_stopped sheller start old now n h =
+    subst (λ us. AllLayersKnown sheller start us (take n (layers_in now)))
+    (append-nil (units_in (take n old)) ∙ ap units_of (take_entries n old))
+    (subst (AllLayersKnown sheller start (units_in (take n old) ++ []))
+    (append-nil (layers_in (take n now)) ∙ take_layers n now) h)
+
 -- the refresh of unit i failed, before or after its evaluation
 pub stops : (sheller : Sheller) (old now : List Bridge) (spares : Spares) (start : Moment) (i : ℕ) (m : Moment)
     (flag : Bool)
@@ -437,7 +491,7 @@ pub stops : (sheller : Sheller) (old now : List Bridge) (spares : Spares) (start
     → (d y : Bridge) → y.unit ≡ (slice_index_or now i d).unit
     → (y ≡ slice_index_or now i d) ⊎ (wide_outcome y.kept ≡ outcome_of m (slice_index_or now i d).unit)
     × (kept_parts y.parts ≡ fresh_parts_by sheller m (slice_index_or now i d).unit)
-    → Stops sheller start old (slice_set now i y)
+    × UnitLayersKnown sheller m (slice_index_or now i d).unit y.layers → Stops sheller start old (slice_set now i y)
 stops sheller old now spares start i m flag before after spent p inside d y unit (inl same) = (
   i,
   ap entries_of (ap (slice_set now i) same ∙ set-get_or now i d)
@@ -445,6 +499,9 @@ stops sheller old now spares start i m flag before after spent p inside d y unit
   ap stored_parts_in (ap (slice_set now i) same ∙ set-get_or now i d)
       ∙ parts_stopped sheller start old now i m p.parts p.rest (omega arith),
   ap (λ bs. drop i (layers_in bs)) (ap (slice_set now i) same ∙ set-get_or now i d) ∙ layers_stopped old now i p.rest,
+  subst (λ bs. AllLayersKnown sheller start (units_of (take i (entries_of old))) (take i (layers_in bs)))
+      (sym (ap (slice_set now i) same ∙ set-get_or now i d))
+      (front_stopped sheller start old now i (p.front [] [] tt)),
 )
 stops sheller old now spares start i m flag before after spent p inside d y unit (inr fresh) =
     let many : i + 1 ≤ length (slice_set now i y) = grind (arith, common_steps, inside) in (
@@ -460,6 +517,8 @@ stops sheller old now spares start i m flag before after spent p inside d y unit
           (rest_next sheller old now spares start i m flag before after spent p inside d y) many,
       layers_stopped old (slice_set now i y) (i + 1)
           (rest_next sheller old now spares start i m flag before after spent p inside d y),
+      front_stopped sheller start old (slice_set now i y) (i + 1)
+          (front_known sheller old now spares start i m flag before after spent p inside d y [] [] fresh.2 tt),
     )
 
 -- after all units

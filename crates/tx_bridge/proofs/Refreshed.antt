@@ -14,6 +14,7 @@ use Rattle.tx_bridge.specs.Entries.{Kept, units_of, fresh_from}
 use Rattle.tx_parts.specs.Opening.{Sheller}
 use Rattle.tx_bridge.specs.PartsKept.{KeptParts, fresh_parts_by_from}
 use Rattle.tx_walk.specs.LayerTraces.{TreeTrace}
+use Rattle.tx_bridge.specs.Charges.{AllLayersKnown}
 use Rattle.tx_bridge.specs.Settled.{AreSettled}
 use Rattle.tx_bridge.specs.Sound.{entries_of, stored_parts_in, layers_in, flags_of}
 use Rattle.tx_bridge.proofs.Partway.{Stops}
@@ -34,6 +35,7 @@ Refused sheller start kept parts layers now =
     (n : ℕ) × (entries_of now ≡ take n (fresh_from start (units_of kept)) ++ drop n kept)
     × (stored_parts_in now ≡ take n (fresh_parts_by_from sheller start (units_of kept)) ++ drop n parts)
     × (drop n (layers_in now) ≡ drop n layers)
+    × AllLayersKnown sheller start (units_of (take n kept)) (take n (layers_in now))
 
 pub refused : (sheller : Sheller) (m start : Moment) (old items whole : List Bridge) (kept : Kept)
     (parts : List KeptParts) (layers : List (List TreeTrace)) → m ≡ start

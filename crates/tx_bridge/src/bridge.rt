@@ -369,7 +369,8 @@ impl Bridge {
         ensures sound { IsSoundBridge self.new }
         ensures err { OnErr result ((self.new ≡ self.old)
             ⊎ (wide_outcome self.new.kept ≡ outcome_of moment.old self.old.unit)
-            × (kept_parts self.new.parts ≡ fresh_parts_by (shells_by (O.opens opener.now)) moment.old self.old.unit)) }
+            × (kept_parts self.new.parts ≡ fresh_parts_by (shells_by (O.opens opener.now)) moment.old self.old.unit)
+            × UnitLayersKnown (shells_by (O.opens opener.now)) moment.old self.old.unit self.new.layers) }
     {
         trace_laws();
         opener_law();

@@ -104,7 +104,9 @@ fn refresh_all<O: Opener, L: Ledger>(
         ≡ take n (fresh_from moment.old (units_of (entries_of bridges.old))) ++ drop n (entries_of bridges.old))
         × (stored_parts_in bridges.new ≡ take n (fresh_parts_by_from (shells_by (O.opens opener.now)) moment.old
         (units_of (entries_of bridges.old))) ++ drop n (stored_parts_in bridges.old))
-        × (drop n (layers_in bridges.new) ≡ drop n (layers_in bridges.old))) }
+        × (drop n (layers_in bridges.new) ≡ drop n (layers_in bridges.old))
+        × AllLayersKnown (shells_by (O.opens opener.now)) moment.old
+        (units_of (take n (entries_of bridges.old))) (take n (layers_in bridges.new))) }
 {
     let mut still = settled;
     let mut charges = 0;
@@ -247,7 +249,9 @@ impl Bridges {
             ≡ take n (FreshTracesFrom start.now self.old.kept) ++ drop n self.old.kept)
             × (self.new.parts ≡ take n (FreshPartsBy start.now (shells_by (O.opens opener.now)) self.old.kept)
             ++ drop n self.old.parts)
-            × (drop n self.new.layers ≡ drop n self.old.layers)) }
+            × (drop n self.new.layers ≡ drop n self.old.layers)
+            × KnowsLayers start.now (shells_by (O.opens opener.now)) (take n self.old.kept)
+            (take n self.new.layers)) }
         ensures strays { OnOk result (self.new.strays ≡ []) }
         ensures strays_stay { OnErr result (self.new.strays ≡ self.old.strays) }
         ensures end { OnOk result (self.new.end ≡ EndFrom start.now self.old.kept) }
@@ -296,7 +300,9 @@ impl Bridges {
             ≡ take n (FreshTracesFrom start.now self.old.kept) ++ drop n self.old.kept)
             × (self.new.parts ≡ take n (FreshPartsBy start.now (shells_by (O.opens opener.now)) self.old.kept)
             ++ drop n self.old.parts)
-            × (drop n self.new.layers ≡ drop n self.old.layers)) }
+            × (drop n self.new.layers ≡ drop n self.old.layers)
+            × KnowsLayers start.now (shells_by (O.opens opener.now)) (take n self.old.kept)
+            (take n self.new.layers)) }
         ensures strays { OnOk result (self.new.strays ≡ []) }
         ensures strays_stay { OnErr result (self.new.strays ≡ self.old.strays) }
         ensures end { OnOk result

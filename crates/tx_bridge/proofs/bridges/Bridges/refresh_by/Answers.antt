@@ -53,7 +53,7 @@ invariant_of-self g c =
     }
 
 pub returns-in_err-charges-clause-refused : goal.returns-in_err-charges-clause-refused
-unfolding FreshTracesFrom FreshPartsBy
+unfolding FreshTracesFrom FreshPartsBy KnowsLayers
 returns-in_err-charges-clause-refused g c =
     let whole : take c.self.inside.bridges.len (c.refresh_all.new.bridges
     ++ drop (length c.refresh_all.new.bridges) c.self.inside.bridges.items) ≡ c.refresh_all.new.bridges =

@@ -4,7 +4,7 @@ use Rattle.tx_bridge.specs.Moments.{beginning_with}
 use Rattle.tx_bridge.specs.Reached.{reached_by_from}
 use Rattle.tx_bridge.specs.Spares.{spares_of}
 use Rattle.tx_bridge.specs.Names.{FreshTracesFrom, FreshPartsFrom, PartFlagsFrom, ChargeFrom}
-use Rattle.tx_bridge.specs.Names.{FreshPartsBy, PartFlagsBy, ChargeBy}
+use Rattle.tx_bridge.specs.Names.{FreshPartsBy, PartFlagsBy, ChargeBy, KnowsLayers}
 use Rattle.tx_bridge.proofs.Partway.{OnErr-weaker}
 use Rattle.tx_bridge.proofs.Spared.{layers_unseen}
 use Rattle.tx_bridge.proofs.bridges.Bridges.refresh_from.Goals as goal
@@ -47,5 +47,6 @@ returns-clause-refused g c =
     ≡ take n (FreshTracesFrom c.args.start.now c.args.self.now.kept) ++ drop n c.args.self.now.kept)
     × (c.refresh_by.new.self.parts
     ≡ take n (FreshPartsBy c.args.start.now s c.args.self.now.kept) ++ drop n c.args.self.now.parts)
-    × (drop n c.refresh_by.new.self.layers ≡ drop n c.args.self.now.layers)))
+    × (drop n c.refresh_by.new.self.layers ≡ drop n c.args.self.now.layers)
+    × KnowsLayers c.args.start.now s (take n c.args.self.now.kept) (take n c.refresh_by.new.self.layers)))
     c.opener_law.ensures.nothing_opened c.refresh_by.ensures.refused)
