@@ -1,7 +1,7 @@
-//! What every crate of the editor stands on: the answer for want of memory, and a count of steps.
+//! What every crate of the editor uses: the error for out of memory, and a count of steps.
 //!
-//! `Memory` is the one answer that no contract ties to a cause. `Steps` is a number that only proofs
-//! see: it has no bytes when the program runs.
+//! `Memory` is the one error that no contract ties to a cause. `Steps` is a number that only proofs see: it has no
+//! bytes when the program runs.
 #![tactic(auto)]
 
 mod out_of_memory;

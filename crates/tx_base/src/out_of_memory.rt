@@ -1,9 +1,8 @@
-// Want of memory, as an answer of its own.
+// Out of memory, as an error of its own.
 use std::alloc::{AllocError, AllocFailed};
 use thiserror::Error;
 
-/// There was not enough memory. It is an answer of its own, merged with no other, and no contract says
-/// when it comes.
+/// There was not enough memory. It is an error of its own, merged with no other, and no contract says when it comes.
 #[derive(Clone, Copy, Debug, PartialEq, Eq, Error)]
 #[error("out of memory")]
 pub struct Memory;

@@ -25,7 +25,7 @@ impl<L: Ledger> Model for Steps<L> {
 }
 
 impl<L: Ledger> Steps<L> {
-    /// A count that stands at 0, of a blank that belongs to the ledger alone.
+    /// A count that is 0, of a blank that belongs to the ledger alone.
     pub fn new(blank: Blank) -> Steps<L>
         requires name { blank.name ≡ L.name }
         requires parts { blank.parts ≡ L.parts }

@@ -111,7 +111,7 @@ pub above_is : (us : List DocUnit) (j : ℕ) (u : DocUnit) (place r : List ℕ) 
     → rest_in u place ≡ Some r → unit_above 0 us place ≡ (j, r)
 above_is us j u place r h at e = above_from us j 0 j u place r h at e (omega arith)
 
--- ---- what the number tells
+-- ---- what follows from the number
 
 -- the unit of that number has the place
 pub record IsFound (vs : List DocUnit) (n : ℕ) (place r : List ℕ) : Type 0 where
@@ -136,7 +136,7 @@ found_at j (v ∷ vs) place few = by (rest_in v place) refl few (found_at (j + 1
         let f = later (omega (arith, less)) in
         (suc f.0, omega (arith, f.1), record { unit = f.2.unit; there = f.2.there; rest = f.2.rest })
 
--- the number behind the last unit is told where none is above
+-- where the number is that after the last unit, no unit is above the place
 pub far_at : (j : ℕ) (vs : List DocUnit) (place : List ℕ) → j + length vs ≤ (unit_above j vs place).0
     → ((unit_above j vs place).1 ≡ place) × NoneAbove place vs
 far_at j [] place far = (refl, (λ k u e. cc))
@@ -154,7 +154,7 @@ far_at j (v ∷ vs) place far = by (rest_in v place) refl far (far_at (j + 1) vs
         none rest zero u e = ap (λ (w : DocUnit). rest_in w place) (sym (unit_is v u vs e)) ∙ is
         none rest (suc k) u e = rest k u e
 
--- ---- whether a unit stands at the place
+-- ---- whether a unit is at the place
 
 any_false : (f : DocUnit → Bool) (us : List DocUnit)
     → ((k : ℕ) (u : DocUnit) → slice_get us k ≡ Some u → f u ≡ false) → list_any f us ≡ false
@@ -172,7 +172,7 @@ any_true f (v ∷ us) zero u at e =
     ap (λ b. b || list_any f us) (ap f (unit_is v u us at) ∙ e)
 any_true f (v ∷ us) (suc k) u at e = ap (λ b. f v || b) (any_true f us k u at e) ∙ or_true (f v)
 
--- a unit that stands at the place has nothing left of it
+-- the rest of the place below a unit that is at it is empty
 stands_rest : (place : List ℕ) (v : DocUnit) → stands_at (Some place) v ≡ true → rest_in v place ≡ Some []
 stands_rest place v e = by v.path refl
   where
@@ -281,7 +281,7 @@ pub vacant_read : (us : List DocUnit) (place : List ℕ) (j : ℕ) (u : DocUnit)
     → not b ≡ is_vacant (Some place) us
 vacant_read us place j u b apart h inside is e = vacant_by_path us place j u b apart h (read_at us j u inside is) e
 
--- a unit_above has a path, and the place is behind it
+-- a unit above a place has a path
 pub above_has_path : (us : List DocUnit) (place : List ℕ) (j : ℕ) (d : DocUnit) → IsUnitAbove place us j → j < length us
     → (slice_index_or us j d).path ≡ None → ⊥
 above_has_path us place j d h inside none =

@@ -1,4 +1,4 @@
--- Where units are in order, a number of a place tells which one is above it.
+-- Where units are in order, a number of a place says which one is above it.
 use Rattle.std.proofs.Common.{◌≡◌, ℕ, zero, suc, ◌+◌, ◌-◌, ◌<◌, ◌≤◌, List, [], ◌∷◌, ◌++◌, length, Option, Some, None}
 use Rattle.std.proofs.Common.{refl}
 use Rattle.std.proofs.Common.{ap, sym, subst, ◌∙◌, arith, slice_index_or, ◌⊎◌, inl, inr, Bool, true, false, eqb, ◌^◌}
@@ -14,7 +14,7 @@ use Rattle.tx_bridge.proofs.Above.{IsIn, rest_in_is, off_rest}
 
 -- ---- units that are looked at one by one
 
--- so it is of the first i ones
+-- the first i units are aligned
 pub record AlignedTo (first depth : ℕ) (us : List DocUnit) (i : ℕ) : Type 0 where
   pub order : (k : ℕ) (u : DocUnit) → k < i → slice_get us k ≡ Some u → IsInOrder first k u
   pub depths : (k : ℕ) (u : DocUnit) (p : List ℕ) → k < i → slice_get us k ≡ Some u → u.path ≡ Some p
@@ -61,7 +61,7 @@ module _ (first depth : ℕ) (us : List DocUnit) (i : ℕ) (h : AlignedTo first 
     depths = λ k u p at has. h.depths k u p (omega (arith, past, slice_get_within us k u at)) at has;
   }
 
--- ---- what the place tells
+-- ---- what the place says
 
 get_front : (xs ys : List ℕ) (k : ℕ) → k < length xs → slice_get (xs ++ ys) k ≡ slice_get xs k
 get_front [] ys k less = absurd (omega (arith, less))

@@ -35,7 +35,7 @@ use Rattle.tx_walk.proofs.Trees.{both, same_is}
 use Rattle.tx_bridge.proofs.WithinUnit.{kept_paths}
 use Rattle.tx_bridge.proofs.Slotting.{path_is, paths_alike, some_once}
 
--- the new unit w, where the old one of number i has given what is kept of it
+-- the new unit w, after the old one of number i has given what is cached of it
 abbrev pub with_given : ℕ → Bridge → Bridge → Bridge
 with_given i b w = record {
   unit = w.unit;
@@ -47,7 +47,7 @@ with_given i b w = record {
   source = Some i;
 }
 
--- ---- where old units stand
+-- ---- where old units are
 
 pub lead_one : (t : WideTree) (u : DocUnit) → Stands t u → Leads t u.path
 lead_one t u stands = by_path u.path refl
@@ -69,7 +69,7 @@ moved_all ms t (x ∷ bs) zero q b e f none =
     sym first ∙ ap (λ (y : Bridge). through ms t y.unit.path) same ∙ ap (through ms t) none
 moved_all ms t (x ∷ bs) (suc i) q b e f none = moved_all ms t bs i q b e f none
 
--- the tree has the old unit's tree where the unit stands afterwards
+-- the tree has the old unit's tree where the unit is afterwards
 abbrev pub Arrives : WideTree → Option (List ℕ) → DocUnit → Type 0
 Arrives u place x = (p : List ℕ) → place ≡ Some p → subtree u p ≡ Some x.tagged.tree
 
@@ -99,7 +99,7 @@ tagged_is u v placed there trees paths =
     ap (λ t. tagged_at t u.tagged.at) trees
     ∙ ap (tagged_at v.tagged.tree) (placed.origin ∙ roots u.path v.path paths ∙ sym there.origin)
 
--- where the old unit stands at the new one's path, they have one tree
+-- where the old unit is at the new one's path, they have one tree
 abbrev pub SameAt : Option (List ℕ) → DocUnit → DocUnit → Type 0
 SameAt place u v = (p : List ℕ) → place ≡ Some p → v.path ≡ Some p → u.tagged.tree ≡ v.tagged.tree
 
@@ -121,7 +121,7 @@ stays_tagged place i u j v placed there moved same None e h =
     (both (same_kind u.kind v.kind) (is_same u.tagged.tree v.tagged.tree) unit).1)
     (paths_alike u v placed there unit)
 
--- ---- giving keeps what is true of what is kept
+-- ---- giving preserves what is true of what is cached
 
 one_sound : (s : Bool) (i : ℕ) (b w : Bridge) → (s ≡ true → tagged_of b.unit.tagged ≡ tagged_of w.unit.tagged)
     → IsSoundBridge b → IsSoundBridge w → IsSoundBridge (if s then with_given i b w else w)
@@ -227,7 +227,7 @@ all_given_units i (place ∷ places) [] new = refl
 all_given_units i (place ∷ places) (b ∷ bs) new =
     all_given_units (i + 1) places bs (given_from place i b 0 new) ∙ units_given place i b 0 new
 
--- nothing kept is sound
+-- units with nothing cached are sound
 pub start_sound : (us : List DocUnit) → AllByRecursion HasPathIfBody us → All IsSoundBridge (map fresh_bridge us)
 start_sound us h = All-from_recursion IsSoundBridge (map fresh_bridge us) (fresh_sound us h)
 
@@ -319,7 +319,7 @@ pub units_bodies : (bs : List Bridge) → units_of (entries_of bs) ≡ bodies_of
 units_bodies [] = refl
 units_bodies (b ∷ bs) = ap (λ us. b.unit ∷ us) (units_bodies bs)
 
--- ---- nothing kept, and what is kept
+-- ---- nothing cached, and what is cached
 
 start_entries : (us : List DocUnit) → entries_of (map fresh_bridge us) ≡ nothing_kept us
 start_entries [] = refl

@@ -1,4 +1,4 @@
--- Strays hold, and stand in no unit. Where one unit changes alone, those stay whose trees don't hold it.
+-- Strays hold, and are in no unit. Where one unit alone changes, those are left whose trees don't hold it.
 use Rattle.std.proofs.Common.{◌≡◌, ℕ, zero, suc, Bool, true, false, cond, not, List, [], ◌∷◌, filter, map}
 use Rattle.std.proofs.Common.{Option, Some, None, refl, ap, sym, subst, ◌∙◌, ◌<◌, length, arith, slice_index_or}
 use Rattle.std.proofs.lemmas.Map.Keys.{IsDistinct-head, IsDistinct-tail, IsDistinct-cons}
@@ -161,7 +161,7 @@ path_read bs read kept i b was is inside at =
     by (c ∷ cs) zero less = refl
     by (c ∷ cs) (suc n) less = by cs n (omega (arith, less))
 
--- what is seen of those that stay
+-- what is seen of those that are left
 pub stay_beside : (i : ℕ) (ms : List Mod) (bs : List Bridge) (kept : Kept) (was now : List DoneStray)
     (ss : List Stray) (b : Bridge) → entries_of bs ≡ kept → strays_in was ≡ ss → IsOneChanged i 0 ms (units_of kept)
     → b ≡ slice_index_or bs i b → now ≡ beside_of b.unit.path was
@@ -172,7 +172,7 @@ stay_beside i ms bs kept was now ss b is seen one at left =
     (sym (path_read bs bs kept i b is refl (is_within i ms bs kept is one) at))
     ∙ ap (strays_beside i (units_of kept)) seen
 
--- ---- those that stay stand in the document afterwards
+-- ---- the trees of those that are left are in the document afterwards
 
 not_true : (b : Bool) → not b ≡ true → b ≡ false
 not_true true e = cc

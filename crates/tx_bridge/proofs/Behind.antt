@@ -1,4 +1,4 @@
--- The moment behind units that are gone through.
+-- The moment after units that were gone through.
 use Rattle.std.proofs.Common.{◌≡◌, ℕ, ◌+◌, ◌≤◌, List, ◌∷◌, length, drop, ap, sym, ◌∙◌}
 use Rattle.std.proofs.lemmas.List.{drop_all}
 use Rattle.std.specs.Prelude.{Some, slice_get}
@@ -13,7 +13,7 @@ use Rattle.tx_bridge.proofs.Partway.{units_in}
 use Rattle.tx_bridge.proofs.Taking.{heads}
 use Rattle.tx_bridge.proofs.Used.{AllAllowed, charge_fits}
 
--- behind i units, at the moment m, from the moment `start`
+-- after i units, at the moment m, from the moment `start`
 pub record BehindSome (bs : List Bridge) (start : Moment) (i : ℕ) (m : Moment) : Type 0 where
   pub moment : behind_all m (units_in (drop i bs)) ≡ behind_all start (units_in bs)
   pub fresh : entries_of (drop i bs) ≡ fresh_from m (units_in (drop i bs))
@@ -33,7 +33,7 @@ module _ (bs : List Bridge) (start : Moment) (i : ℕ) (m : Moment) (p : BehindS
       (fresh_from (behind m (outcome_of m b.unit)) (units_in (drop (i + 1) bs)))
       (sym (ap entries_of ahead) ∙ p.fresh ∙ ap (λ cs. fresh_from m (units_in cs)) ahead)
 
-  -- the next unit has what it comes to
+  -- the next unit has its outcome
   pub comes : wide_outcome b.kept ≡ outcome_of m b.unit
   comes = ap (λ (e : Entry). e.trace) both.0
 
@@ -49,7 +49,7 @@ module _ (bs : List Bridge) (start : Moment) (i : ℕ) (m : Moment) (p : BehindS
         fresh = both.1 ∙ ap (λ k. fresh_from k (units_in (drop (i + 1) bs))) (sym at);
       }
 
--- behind all units
+-- after all units
 pub behind_whole : (bs : List Bridge) (start : Moment) (i : ℕ) (m : Moment) → BehindSome bs start i m → length bs ≤ i
     → m ≡ behind_all start (units_in bs)
 behind_whole bs start i m p past = ap (λ cs. behind_all m (units_in cs)) (sym (drop_all i bs past)) ∙ p.moment

@@ -115,7 +115,7 @@ module _ (fewer : AllFewer) (sheller : Sheller) (sound : IsSheller sheller) (m :
           whole false false = let same : charge m (outcome_of m e.unit) ≡ charge m (Some trace) =
               ap (charge m) (sym comes) in omega (arith, same)
 
--- so it is of all
+-- the charge of all units is at most their bound
 pub charged_most : AllFewer → (sheller : Sheller) → IsSheller sheller → (m : Moment) (es : Kept) (pss : List KeptParts)
     (lss : List (List TreeTrace)) (ss : Spares) → AllByRecursion HasPathIfBody (units_of es)
     → charges_by sheller m es pss lss ss ≤ bounds_by sheller m es pss lss ss

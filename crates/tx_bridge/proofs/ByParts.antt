@@ -89,7 +89,7 @@ same_stores ks qs =
     ap (λ s. both_stores s (kept_in qs)) (fun_ext (same_store ks))
     ∙ ap (λ s. both_stores (kept_at (kept_parts ks)) s) (fun_ext (same_store qs))
 
--- ---- what it answers
+-- ---- what it returns
 
 abbrev of_seen : Seen → Stored
 of_seen s = record { path = s.path; trace = s.trace }

@@ -1,4 +1,4 @@
--- Where one unit alone changes, what is kept in place is what a carry keeps.
+-- Where one unit alone changes, a carry in place gives what a carry gives.
 use Rattle.std.proofs.Common.{◌≡◌, ℕ, zero, suc, ◌+◌, ◌<◌, Bool, true, false, cond, List, [], ◌∷◌, ◌++◌, length, drop}
 use Rattle.std.proofs.Common.{map, not, Option, Some, None, Ok, Err, refl, sym, ap, subst, ◌∙◌, arith}
 use Rattle.std.proofs.lemmas.Bool.Decides.{Decides-eqb}
@@ -46,7 +46,7 @@ use Rattle.tx_bridge.proofs.WithinUnit.{no_rest_of}
 
 -- ---- paths through modifications inside the subtree at p
 
--- what stands below p is carried to below p, or nowhere
+-- what is below p is carried to below p, or nowhere
 one_below : (m : Mod) (t : WideTree) (p q r : List ℕ) → begins_path p (path_of m) ≡ true
     → carried_path m t (p ++ q) ≡ Some r → (s : List ℕ) × (r ≡ p ++ s)
 one_below m t p q r inside e = by (subtree t (path_of m)) e
@@ -159,7 +159,7 @@ apart_two (u ∷ us) (suc j) zero v w h off e f =
     (turned u.path v.path (apart_one u.path us j v h.0 e))
 apart_two (u ∷ us) (suc j) (suc k) v w h off e f = apart_two us j k v w h.1 (λ same. off (ap suc same)) e f
 
--- the parts of the unit go nowhere by themselves
+-- the parts of the unit don't move by themselves
 abbrev NoneMove : List Mod → WideTree → List DocUnit → DocUnit → Type 0
 NoneMove ms t vs w = (n : ℕ) (ks : KeptParts) → unit_moves ms t vs n w ks ≡ []
 
@@ -287,7 +287,7 @@ module _ (i : ℕ) (ms : List Mod) (t u x : WideTree) (us : List DocUnit) (made 
       ∙ sym (vacant_nowhere vs))
       ∙ ap (λ o. option_map_or (λ a. moves_below ms t vs i a 0 ks) o []) has
 
-  -- the unit is above all that stands below its path
+  -- the unit is above all that is below its path
   below_own : (r : List ℕ) → unit_above 0 vs (p ++ r) ≡ (i, r)
   below_own r =
       above_is vs i (unit_with x one.unit) (p ++ r) r vs_are.apart (that_with i x us one.unit one.there)
@@ -315,7 +315,7 @@ module _ (i : ℕ) (ms : List Mod) (t u x : WideTree) (us : List DocUnit) (made 
           ∙ ap (λ o. and_part (option_map (λ r. record { path = r; trace = s.trace }) o) (parts_behind ms t p ks))
           (sym (ap (rest_behind p) b.1 ∙ rest_own p b.0))
 
-  -- none of them stands in no unit
+  -- each of them is in some unit
   own_stray_none : (k : ℕ) (ks : KeptParts) → arrived (moves_below ms t vs i p k ks) (length vs) ≡ []
   own_stray_none k [] = refl
   own_stray_none k (s ∷ ks) = by (carried_by_all ms t (p ++ s.path)) refl (own_stray_none (k + 1) ks)
@@ -367,7 +367,7 @@ module _ (i : ℕ) (ms : List Mod) (t u x : WideTree) (us : List DocUnit) (made 
               let same : v ≡ w = some_once (slice_get vs k) v w (other_with i x us k v f off) at in
               ap (λ (y : DocUnit). rest_in y place) (sym same) ∙ h k v f
 
-  -- one beside the unit stays where it is
+  -- one beside the unit keeps its place
   beside_stays : (s : Stray) → NoneAbove s.kept.path us → is_beside (path_at i us) s.kept.path ≡ true
       → carried_by_all ms t s.kept.path ≡ Some s.kept.path
   beside_stays s h e =
@@ -387,7 +387,7 @@ module _ (i : ℕ) (ms : List Mod) (t u x : WideTree) (us : List DocUnit) (made 
           sym (no_rest_of s.kept.path p f) ∙ ap (rest_behind s.kept.path) is ∙ rest_own s.kept.path a in
           cc
 
-  -- and one whose tree holds it goes
+  -- and one whose tree holds the unit is carried nowhere
   holding_goes : (s : Stray) → NoneAbove s.kept.path us → is_beside (path_at i us) s.kept.path ≡ false
       → carried_by_all ms t s.kept.path ≡ None
   holding_goes s h e = by_front (begins_path s.kept.path p) refl
@@ -433,7 +433,7 @@ module _ (i : ℕ) (ms : List Mod) (t u x : WideTree) (us : List DocUnit) (made 
           (moves_below ms t vs n [] (k + 1) (kept_strays ss))) (length vs)) (holding_goes s h.0 e)
           ∙ rest
 
-  -- none comes to the unit
+  -- none moves to the unit
   strays_stay_out : (n k : ℕ) (ss : List Stray) → AreOutside us ss
       → arrived (moves_below ms t vs n [] k (kept_strays ss)) i ≡ []
   strays_stay_out n k [] h = refl

@@ -1,4 +1,4 @@
--- What is kept of the parts of the unit that changes.
+-- What is cached of the parts of the unit that changes.
 use Rattle.std.proofs.Common.{◌≡◌, ℕ, zero, suc, List, [], ◌∷◌, Option, Some, None, refl, ap}
 use Rattle.std.proofs.Common.{sym, ◌∙◌, subst}
 use Rattle.std.proofs.lemmas.List.Elements.{recursion_from_All}
@@ -32,7 +32,7 @@ use Rattle.tx_bridge.proofs.OtherParts.{kept_put, tidy_all, held_tidy}
 use Rattle.tx_bridge.proofs.WithinUnit.{clash, parts_hold_behind}
 use Rattle.tx_walk.proofs.Trees.{both}
 
--- where the unit's tree stands
+-- where the unit's tree is
 old_stands : (t : WideTree) (i : ℕ) (us : List DocUnit) → AllStand t us → (u : DocUnit) → slice_get us i ≡ Some u
     → (p : List ℕ) → u.path ≡ Some p → subtree t p ≡ Some u.tagged.tree
 old_stands t i [] h u e p has = cc
@@ -52,7 +52,7 @@ body_at [] i b e = cc
 body_at (x ∷ bs) zero b e = ap Some (ap (λ (w : Bridge). w.unit) (same_Some x b e))
 body_at (x ∷ bs) (suc i) b e = body_at bs i b e
 
--- what calls ask for, and answer
+-- what calls require and return
 
 bodies_are : (bs : List Bridge) (kept : Kept) → entries_of bs ≡ kept → units_of kept ≡ bodies_of bs
 bodies_are bs kept was = sym (ap units_of was) ∙ units_bodies bs
@@ -66,7 +66,7 @@ pub bodies_stand : (t : WideTree) (bs read : List Bridge) (kept : Kept) → read
 bodies_stand t bs read kept is was h =
     subst (AllStand t) (bodies_read bs read kept is was) h
 
--- the unit of this number stands in the tree, and its parts hold
+-- the unit of this number is in the tree, and its parts hold
 pub stands_for : (t : WideTree) (bs : List Bridge) → AllStand t (bodies_of bs) → All IsSoundBridge bs
     → (i : ℕ) (b : Bridge)
     → slice_get bs i ≡ Some b → (p : List ℕ) → b.unit.path ≡ Some p → (ps : List DonePart) → ps ≡ b.parts
@@ -78,7 +78,7 @@ stands_for t bs stand sound i b at p has ps is =
       subst (AllByRecursion (HoldsPart b.unit.tagged.tree)) (sym is) s.parts.hold,
     )
 
--- what is told of the unit's parts, which stands at p, is told of those of the entry of this number
+-- what is true of the parts of the unit at p is true of those of the entry of this number
 pub moved_there : (ms : List Mod) (t : WideTree) (bs : List Bridge) (i : ℕ) (b : Bridge) → slice_get bs i ≡ Some b
     → (p : List ℕ) → b.unit.path ≡ Some p → (ps : List DonePart) → ps ≡ b.parts → (os : List (ℕ × Option DonePart))
     → ((u : DocUnit) → u.path ≡ Some p → AreMovedParts ms t u (kept_parts ps) os) → (c : Bridge)
@@ -146,14 +146,14 @@ parts_at [] i b e = cc
 parts_at (x ∷ bs) zero b e = ap Some (ap (λ (w : Bridge). kept_parts w.parts) (same_Some x b e))
 parts_at (x ∷ bs) (suc i) b e = parts_at bs i b e
 
--- these are the parts of the unit of this number that aren't found to stay
+-- these are the parts of the unit of this number that aren't found to keep their places
 abbrev pub AreMovedAt : ℕ → List Mod → WideTree → Kept → List KeptParts → List (ℕ × Option DonePart) → Type 0
 AreMovedAt i ms t kept pss os = (u : DocUnit) (ks : KeptParts) → slice_get (units_of kept) i ≡ Some u
     → slice_get pss i ≡ Some ks → AreMovedParts ms t u ks os
 
 module _ (i : ℕ) (ms : List Mod) (before : WideTree) (os : List (ℕ × Option DonePart)) (bs : List Bridge) (kept : Kept)
     (pss : List KeptParts) (was : entries_of bs ≡ kept) (had : stored_parts_in bs ≡ pss) where
-  -- what is told of the entry of this number is told of what is seen of it
+  -- what is true of the entry of this number is true of what contracts see of it
   pub moved_told : (read : List Bridge) → read ≡ bs
       → ((b : Bridge) → slice_get read i ≡ Some b → AreMovedParts ms before b.unit (kept_parts b.parts) os)
       → AreMovedAt i ms before kept pss os
@@ -172,7 +172,7 @@ module _ (i : ℕ) (ms : List Mod) (before : WideTree) (os : List (ℕ × Option
         moved b.unit (kept_parts b.parts) (unit_of_entry bs kept was i b at)
         (ap (λ qs. slice_get qs i) (sym had) ∙ parts_at bs i b at)
 
-    -- what is kept of the unit's parts, where they are put
+    -- what is cached of the unit's parts, where the others are put
     kept_moved : (b : Bridge) → slice_get bs i ≡ Some b
         → kept_parts (put_from 0 os (done_parts_of i bs)) ≡ parts_within ms before b.unit (kept_parts b.parts)
     kept_moved b at =

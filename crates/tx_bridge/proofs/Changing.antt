@@ -1,4 +1,4 @@
--- One unit has another tree, and nothing is kept of it: this is what carrying gives.
+-- One unit has another tree, and nothing is cached of it: this is what carrying gives.
 use Rattle.std.proofs.Common.{◌≡◌, ℕ, zero, suc, ◌+◌, ◌<◌, List, [], ◌∷◌, length, slice_set, slice_index_or}
 use Rattle.std.proofs.Common.{Some, refl, ap, sym, ◌∙◌, subst, arith}
 use Rattle.std.proofs.lemmas.Bool.Decides.{Decides-eqb}
@@ -48,7 +48,7 @@ set_changed (b ∷ bs) zero t ps d y inside is = ap (λ c. c ∷ bs) is
 set_changed (b ∷ bs) (suc i) t ps d y inside is =
     ap (λ cs. b ∷ cs) (set_changed bs i t ps d y (omega (arith, inside)) is)
 
--- ---- units, and what is kept of them
+-- ---- units, and what is cached of them
 
 many_changed : (i : ℕ) (t : WideTree) (ps : List DonePart) (bs : List Bridge)
     → length (changed_in i t ps bs) ≡ length bs
@@ -56,7 +56,7 @@ many_changed i t ps [] = refl
 many_changed zero t ps (b ∷ bs) = refl
 many_changed (suc i) t ps (b ∷ bs) = ap suc (many_changed i t ps bs)
 
--- the layers stay
+-- the layers are unchanged
 pub layers_changed : (i : ℕ) (t : WideTree) (ps : List DonePart) (bs : List Bridge)
     → layers_in (changed_in i t ps bs) ≡ layers_in bs
 layers_changed i t ps [] = refl
@@ -78,7 +78,7 @@ new_entry : (c : Bool) (k : ℕ) (t : WideTree) (ps : List DonePart) (b : Bridge
 new_entry true k t ps b e = refl
 new_entry false k t ps b e = cc
 
--- those behind it are as they were
+-- those after it are as they were
 settled_others : (j k : ℕ) (bs : List Bridge) → j < k → entries_of (settled j k bs (bodies_of bs)) ≡ entries_of bs
 settled_others j k [] l = refl
 settled_others j k (b ∷ bs) l =
@@ -119,7 +119,7 @@ changed_sound zero t ps (b ∷ bs) hold h = (
 )
 changed_sound (suc i) t ps (b ∷ bs) hold h = (h.0, changed_sound i t ps bs hold h.1)
 
--- what was kept of the unit of this number sets no name
+-- what was cached of the unit of this number sets no name
 abbrev pub IsSilentAt : List Bridge → ℕ → Type 0
 IsSilentAt bs i = (b : Bridge) → slice_get bs i ≡ Some b → IsSilent (wide_outcome b.kept)
 
@@ -153,7 +153,7 @@ changed_right i t ps old now flag after was are is hold right h stray tidy =
       tidy = tidy right.tidy;
     })
 
--- the parts that are kept
+-- the cached parts
 pub changed_parts : (i : ℕ) (ms : List Mod) (before t : WideTree) (ps : List DonePart) (bs : List Bridge)
     → ((b : Bridge) → slice_get bs i ≡ Some b → kept_parts ps ≡ parts_within ms before b.unit (kept_parts b.parts))
     → stored_parts_in (changed_in i t ps bs) ≡ parts_but ms before i (bodies_of bs) (stored_parts_in bs)
@@ -164,7 +164,7 @@ changed_parts (suc i) ms before t ps (b ∷ bs) h =
 
 -- ---- an edit inside one paragraph
 
--- what `result` is to be, where the unit of number i has the tree t behind it
+-- what `result` is to be, where the unit of number i has the tree t afterwards
 pub record IsInPlace (i : ℕ) (ms : List Mod) (before t : WideTree) (kept : Kept) (us : List DocUnit)
     (result : List Bridge) : Type 0 where
   pub entries : entries_of result ≡ carried (mods_of 0 ms) before kept (units_with i t us)

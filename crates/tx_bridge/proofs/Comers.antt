@@ -1,4 +1,4 @@
--- Parts that have moved to new units hold there, and those that stand in none are apart.
+-- Parts that have moved to new units hold there, and those that are in none are apart.
 use Rattle.std.proofs.Common.{◌≡◌, ℕ, suc, ◌+◌, Bool, true, false, List, [], ◌∷◌, ◌++◌, map, refl, sym, ap, subst}
 use Rattle.std.proofs.Common.{Option, Some, None, ◌∙◌, arith, length}
 use Rattle.std.proofs.lemmas.Bool.Decides.{Decides-eqb}
@@ -34,7 +34,7 @@ use Rattle.tx_bridge.proofs.WithinUnit.{Holds, hold_done, kept_paths, clash}
 
 -- ---- parts with their paths in the document
 
--- the part of number k of the old unit i, where it stands in the document
+-- the part of number k of the old unit i, at its path in the document
 record Standing : Type 0 where
   from : ℕ
   number : ℕ
@@ -221,7 +221,7 @@ module _ (ms : List Mod) (t : WideTree) (vs : List DocUnit) where
   unit_distinct true i None ks d = tt
   unit_distinct false i o ks d = tt
 
-  -- what is kept of the parts of each unit holds in its tree, and no two have one path
+  -- what is cached of the parts of each unit holds in its tree, and no two have one path
   abbrev pub AllHoldParts : List DocUnit → List KeptParts → Type 0
   AllHoldParts [] pss = Unit {0}
   AllHoldParts (u ∷ us) [] = Unit {0}
@@ -251,7 +251,7 @@ module _ (ms : List Mod) (t : WideTree) (vs : List DocUnit) where
 
 -- ---- strays
 
--- strays with these paths, which stand in no unit, differ from what stands in one
+-- strays with these paths, which are in no unit, differ from what is in one
 inside_differs : (u : DocUnit) (p a : List ℕ) (n k : ℕ) (ks : KeptParts) → u.path ≡ Some p
     → AllByRecursion (λ s. rest_in u s.path ≡ None) ks → DiffersFrom (p ++ a) (standing_below n [] k ks)
 inside_differs u p a n k [] has h = tt
@@ -278,7 +278,7 @@ unit_beside u true i (Some p) qs n ks has h = parts_beside u p i 0 qs n ks has h
 unit_beside u true i None qs n ks has h = tt
 unit_beside u false i o qs n ks has h = tt
 
--- none of these stands in a unit
+-- none of these is in a unit
 abbrev pub AllOutside : List DocUnit → KeptParts → Type 0
 AllOutside us ks = AllByRecursion (λ s. NoneAbove s.path us) ks
 
@@ -291,7 +291,7 @@ outside_others : (u : DocUnit) (us : List DocUnit) (ks : KeptParts) → AllOutsi
 outside_others u us [] h = tt
 outside_others u us (s ∷ ks) h = ((λ k v e. h.0 (suc k) v e), outside_others u us ks h.1)
 
--- what is kept of strays holds in the tree, no two have one path, and none stands in a unit
+-- what is cached of strays holds in the tree, no two have one path, and none is in a unit
 pub record HoldAside (t : WideTree) (us : List DocUnit) (ks : KeptParts) : Type 0 where
   pub hold : AllByRecursion (Holds t) ks
   pub distinct : IsDistinct bytes_eq (part_paths ks)
@@ -333,7 +333,7 @@ module _ (ms : List Mod) (t : WideTree) (vs : List DocUnit) where
           (all_distinct ms t vs 0 us pss apart hold) (below_distinct (length us) [] 0 ks aside.distinct)
           (all_beside 0 us pss (length us) ks aside.outside)
 
--- ---- where they come to
+-- ---- where they move to
 
 module _ (ms : List Mod) (t w : WideTree) (vs : List DocUnit)
     (through_all : (q : List ℕ) → CarriesThroughAll ms t q)
@@ -348,14 +348,14 @@ module _ (ms : List Mod) (t w : WideTree) (vs : List DocUnit)
   abbrev there_at : List ℕ → Standing → Stored
   there_at r e = record { path = r; trace = e.kept.trace }
 
-  -- it stands at a place to which this number is told
+  -- it is carried to a place of this number
   record Comes (e : Standing) (r : List ℕ) : Type 0 where
     place : List ℕ
     is : carried_by_all ms t e.path ≡ Some place
     number : (unit_above 0 vs place).0 ≡ j
     rest : (unit_above 0 vs place).1 ≡ r
 
-  -- what holds without the part and with it where it comes to holds
+  -- what holds without the part, and with it where it is carried to, holds
   by_above : (Q : KeptParts → Type 0) (e : Standing) (ks : KeptParts) → Q ks
       → ((r : List ℕ) → Comes e r → Q (there_at r e ∷ ks)) → Q (cons_option (arrives e) ks)
   by_above Q e ks none some = by_place (carried_by_all ms t e.path) refl
@@ -374,7 +374,7 @@ module _ (ms : List Mod) (t w : WideTree) (vs : List DocUnit)
       by_place None is = none
       by_place (Some place) is = by_test place is ((unit_above 0 vs place).0 == j) refl
 
-  -- it stands so far below a front
+  -- it is so far below a front
   below_front : (e : Standing) (r : List ℕ) → Comes e r
       → (p : List ℕ) × IsFront p × (carried_by_all ms t e.path ≡ Some (p ++ r))
   below_front e r c =
@@ -513,7 +513,7 @@ module _ (ms : List Mod) (t w : WideTree) (us vs : List DocUnit) (pss : List Kep
                   (everything_distinct ms t vs us pss ks stand hold aside apart)),
             )
 
-    -- Of those that stand in no new unit no two have one path.
+    -- Of those that are in no new unit no two have one path.
     at_root : (place : List ℕ) → (unit_above 0 vs place).0 ≡ length vs
         → (p : List ℕ) × (p ≡ []) × (place ≡ p ++ (unit_above 0 vs place).1)
     at_root place here = ([], refl, sym (far_at 0 vs place (omega (arith, here))).0)

@@ -1,4 +1,4 @@
--- Parts come to new units one after the other.
+-- Parts move to new units one after the other.
 use Rattle.std.proofs.Common.{◌≡◌, ℕ, zero, suc, ◌+◌, ◌<◌, ◌≤◌, List, [], ◌∷◌, ◌++◌, length, refl, sym, ap, ◌∙◌}
 use Rattle.std.proofs.Common.{arith, slice_index_or, slice_set, Some, None}
 use Rattle.std.proofs.lemmas.Bool.Decides.{Decides-eqb}
@@ -64,7 +64,7 @@ other n j h = by (n == j) refl
     by true e = absurd (h ((Decides-eqb n j).0 e))
     by false e = refl
 
--- it comes to none of these, whose numbers begin with j
+-- it moves to none of these, whose numbers begin with j
 none_comes : (m : PartMove) (j : ℕ) (bs : List Bridge) → m.to < j → with_arrived (m ∷ []) j bs ≡ bs
 none_comes m j [] l = refl
 none_comes m j (b ∷ bs) l =

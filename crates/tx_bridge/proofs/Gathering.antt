@@ -49,7 +49,7 @@ module _ (ms : List Mod) (t : WideTree) (vs : List DocUnit) (i k : ℕ) (q : Lis
   goes_to place x e is =
       ap (option_map (λ r. move_to i k s (unit_above 0 vs r))) e ∙ ap (λ y. Some (move_to i k s y)) (sym is)
 
--- the part is told with its new path and its trace
+-- the part is returned with its new path and its trace
 pub is_seen : (i k to : ℕ) (d e : DonePart) (rest : List ℕ) (x : WideTree) → e.path ≡ rest → e.trace ≡ d.trace
     → move_to i k (kept_part d) (to, rest)
     ≡ seen_move (record { from = i; number = k; to = to; part = e; tree = x })
@@ -65,7 +65,7 @@ is_seen i k to d e rest x path trace =
     told : List ℕ → Stored → Move
     told q s = record { from = i; number = k; to = to; kept = record { path = q; trace = s.trace } }
 
--- where it stands in none of the units, its tree stands at its path
+-- where it is in none of the units, its tree is at its path
 pub has_tree : (ms : List Mod) (t x : WideTree) (vs : List DocUnit) (q place : List ℕ) (m : PartMove)
     (rest : List ℕ) → ((r : List ℕ) → CarriesThroughAll ms t r) → subtree t q ≡ Some x
     → carried_by_all ms t q ≡ Some place → (m.to, rest) ≡ unit_above 0 vs place → m.part.path ≡ rest
@@ -116,7 +116,7 @@ part_holds x ds k d hold inside is = subst (HoldsPart x) (sym is) (by ds k hold 
     by (e ∷ es) zero h l = h.0
     by (e ∷ es) (suc n) h l = by es n h.1 (omega (arith, l))
 
--- a part of a tree stands in the document
+-- a part of a tree is in the document
 pub part_at : (t x there : WideTree) (p q whole : List ℕ) → subtree t p ≡ Some x → whole ≡ p ++ q
     → subtree x q ≡ Some there → subtree t whole ≡ Some there
 part_at t x there p q whole at is leads = ap (subtree t) is ∙ subtree_behind p q t x at ∙ leads

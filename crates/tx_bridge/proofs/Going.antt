@@ -1,4 +1,4 @@
--- Paths that go through modifications.
+-- Paths that are carried through modifications.
 use Rattle.std.proofs.Common.{◌≡◌, ℕ, zero, suc, ◌+◌, ◌<◌, ◌≤◌, List, [], ◌∷◌, length, drop, map, slice_index_or}
 use Rattle.std.proofs.Common.{Option, Some, None, Ok, Err, refl, ap, sym, ◌∙◌, subst, arith}
 use Rattle.std.proofs.lemmas.List.{drop_more}
@@ -16,7 +16,7 @@ use Rattle.tx_bridge.specs.Carrying.{through, Leads, AllLead}
 abbrev pub Paths : Type 0
 Paths = List (Option (List ℕ))
 
--- Behind i modifications, with the tree u and the paths in it.
+-- After i modifications, with the tree u and the paths in it.
 pub record Going (ms : List Mod) (i : ℕ) (old now : Paths) (t u : WideTree) (before after : ℕ) : Type 0 where
   pub paths : map (through (drop i ms) u) now ≡ map (through ms t) old
   pub applies : (v : WideTree) × (changed_by_all (drop i ms) u ≡ Some v)

@@ -1,4 +1,4 @@
--- What is kept of old units is given to the new ones that they are.
+-- What is cached of old units is given to the new ones that they are.
 use Rattle.std.proofs.Common.{◌≡◌, ℕ, zero, suc, ◌+◌, ◌<◌, ◌≤◌, List, [], ◌∷◌, length, drop, slice_set, slice_index_or}
 use Rattle.std.proofs.Common.{Option, Some, None, refl, ap, sym, ◌∙◌, subst, arith}
 use Rattle.std.proofs.lemmas.List.{drop_more, drop-drop, drop-set-lt, drop_all}
@@ -78,7 +78,7 @@ module _ (place : Option (List ℕ)) (i : ℕ) (b : Bridge) where
   gives_read new j d y inside is h =
       ap (slice_set new j) is ∙ gives_some new j (slice_index_or new j d) (slice_get-get_or new j d inside) h
 
-  -- a new unit stays as it is
+  -- the unit of a new entry is unchanged
   unit_kept : (s : Bool) (w v : Bridge) → Some (if s then with_kept w else w) ≡ Some v → v.unit ≡ w.unit
   unit_kept true w v e = let same : with_kept w ≡ v = cc in ap (λ (x : Bridge). x.unit) (sym same)
   unit_kept false w v e = let same : w ≡ v = cc in ap (λ (x : Bridge). x.unit) (sym same)
@@ -106,7 +106,7 @@ module _ (place : Option (List ℕ)) (i : ℕ) (b : Bridge) where
       let x : (u : Bridge) × (slice_get new k ≡ Some u) × (v.unit ≡ u.unit) = given_units 0 new k v at in
       subst (IsInOrder first k) (sym x.2) (order k x.0 x.1)
 
--- behind i old units
+-- after i old units
 pub record Giving (places : List (Option (List ℕ))) (old now start new : List Bridge) (i : ℕ) : Type 0 where
   pub given : given_all i (drop i places) (drop i now) new ≡ given_all 0 places old start
   pub rest : drop i now ≡ drop i old

@@ -1,4 +1,4 @@
--- What is held of layers stays so where the trace of the unit fits.
+-- What is held of layers is held still where the trace of the unit fits.
 use Rattle.std.proofs.Common.{◌≡◌, ℕ, ◌+◌, ◌≤◌, List, [], ◌∷◌, Option, Some, refl, ap, sym, subst, ◌∙◌, leb-true, arith}
 use Rattle.std.proofs.lemmas.Option.{same_Some}
 use Rattle.std.specs.Prelude.{Bool, true, false, ◌&&◌, ◌||◌, if◌then◌else◌, nat_le}
@@ -136,7 +136,7 @@ charged_nothing support allowed agree same traced distinct again fewer sheller s
     ∙ known_free support agree again fewer sheller sound m n e.unit ls (holds_either ls s.layers) trace placed is fit
     hold known (more_either ls s.layers)
 
--- so is one of which all this is spare
+-- a unit of which all this is spare is charged nothing
 pub spare_nothing : AllSupport → AllAllowed → AllAgree → AllSameStored → AllTraced → AllDistinct → AllAgain
     → AllFewer → (sheller : Sheller) → IsSheller sheller → (m n : Moment) (e : Entry) (ps : KeptParts)
     (ls rs : List TreeTrace) (trace : WideTrace) → HasPathIfBody e.unit → outcome_of n e.unit ≡ Some trace

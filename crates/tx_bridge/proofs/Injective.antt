@@ -20,7 +20,7 @@ use Rattle.tx_mod.proofs.Cases.{by_test}
 use Rattle.tx_mod.proofs.Kept.{subtree_behind}
 use Rattle.tx_bridge.proofs.Inside.{rest_is, rest_own, stands_at}
 
--- ---- where a path was before, by where it stands afterwards
+-- ---- where a path was before, by where it is afterwards
 
 abbrev less_from : ℕ → ℕ → ℕ → ℕ
 less_from i n k = if leb i k then k - n else k
@@ -65,7 +65,7 @@ before_at (RemoveNode p i) s v = i ∷ v
 led : (back : List ℕ → List ℕ) (w v a : List ℕ) → back w ≡ a → Some w ≡ Some v → back v ≡ a
 led back w v a h e = subst (λ z. back z ≡ a) (same_Some w v e) h
 
--- what is said of the answer of a test, where it leads to v
+-- what is said of the result of a test, where it leads to v
 abbrev Back : (List ℕ → List ℕ) → List ℕ → List ℕ → Option (List ℕ) → Type 0
 Back back a v o = o ≡ Some v → back v ≡ a
 

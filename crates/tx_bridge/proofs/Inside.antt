@@ -89,7 +89,7 @@ stays_put m t s r e down up =
     ap (λ o. option_map_or (λ x. by_rest m x r (rest_behind (path_of m) r) (rest_behind r (path_of m))) o None) e
     ∙ ap (λ o. by_rest m s r o (rest_behind r (path_of m))) down ∙ ap (by_rest m s r None) up
 
--- a path that isn't above or below q stays
+-- a path that isn't above or below q is unchanged
 one_stays : (m : Mod) (t u : WideTree) (q r : List ℕ) → changed m t ≡ Ok u → begins_path q (path_of m) ≡ true
     → IsNoFront q r → IsNoFront r q → carried_path m t r ≡ Some r
 one_stays m t u q r made inside f g =
@@ -121,7 +121,7 @@ nothing : (xs : List ℕ) → length xs ≡ 0 → xs ≡ []
 nothing [] e = refl
 nothing (x ∷ xs) e = absurd (omega (arith, e))
 
--- q itself goes
+-- q itself is carried nowhere
 goes_down : (m : Mod) (x : WideTree) (q s : List ℕ) → path_of m ≡ q ++ s → leaves_nowhere q m ≡ true
     → (o : Option (List ℕ)) → rest_behind (path_of m) q ≡ o → by_rest m x q o (rest_behind q (path_of m)) ≡ None
 goes_down m x q s is h None e = ap (by_rest m x q None) (ap (rest_behind q) is ∙ rest_own q s)

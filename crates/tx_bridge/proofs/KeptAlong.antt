@@ -1,4 +1,4 @@
--- What is kept of parts and strays goes to where their places in the document are carried.
+-- What is cached of parts and strays is carried to where their places in the document are carried.
 use Rattle.std.proofs.Common.{◌≡◌, ℕ, zero, suc, ◌+◌, Bool, true, false, not, List, [], ◌∷◌, ◌++◌, length}
 use Rattle.std.proofs.Common.{Option, Some, None, refl, sym, ap, subst, ◌∙◌, arith, ◌⊎◌, inl, inr}
 use Rattle.std.proofs.lemmas.List.{append-nil}
@@ -45,7 +45,7 @@ use Rattle.tx_bridge.proofs.ReadByPath.{below_traced, units_from, units_to, unit
 
 -- ---- which ones the units were
 
--- the old unit of number i stands at p afterwards
+-- the old unit of number i is at p afterwards
 record CameUnit (ms : List Mod) (t : WideTree) (us : List DocUnit) (i : ℕ) (p : List ℕ) : Type 0 where
   unit : DocUnit
   there : slice_get us i ≡ Some unit
@@ -125,7 +125,7 @@ any_at f (u ∷ us) e = by (f u) refl (λ g. any_at f us g) e
     by true h later g = (0, u, refl, h)
     by false h later g = let x = later g in (suc x.0, x.1, x.2, x.3)
 
--- a unit stands at the place
+-- a unit is at the place
 record HasUnitAt (vs : List DocUnit) (p : List ℕ) : Type 0 where
   number : ℕ
   unit : DocUnit
@@ -199,7 +199,7 @@ module _ (ms : List Mod) (t w : WideTree) (us vs : List DocUnit) (pss : List Kep
       all_onto (λ m. IsTraced m.kept) (moves_from ms t vs 0 us pss) (moves_below ms t vs (length us) [] 0 ks)
       (units_traced ms t vs 0 us pss traced) (below_traced ms t vs (length us) [] 0 ks (all_traced t ks aside))
 
-  -- what is kept leads
+  -- a path at which something was cached leads
   was_leads : (q : List ℕ) (trace : WideTrace) → was q ≡ Some trace → Leads t (Some q)
   was_leads q trace e = by (read us pss ks q many)
     where
@@ -215,7 +215,7 @@ module _ (ms : List Mod) (t w : WideTree) (us vs : List DocUnit) (pss : List Kep
           )
       by (inr h) = leads_there t ks q trace aside (found_in ks q trace (sym h.tells ∙ e))
 
-  -- a stray that is kept is outside of all units
+  -- a cached stray is outside of all units
   stray_out : (xs : KeptParts) (q : List ℕ) (trace : WideTrace) → AllByRecursion (λ s. NoneAbove s.path us) xs
       → AnyOf (KeepsTrace q trace) xs → NoneAbove q us
   stray_out [] q trace h any = absurd any
@@ -276,7 +276,7 @@ module _ (ms : List Mod) (t w : WideTree) (us vs : List DocUnit) (pss : List Kep
           any_right (Brings j rest trace) (moves_from ms t vs 0 us pss) (moves_below ms t vs (length us) [] 0 ks)
           (below_to ms t vs (length us) [] 0 ks j rest trace q r (found_in ks q trace (sym h.tells ∙ e)) carried above)
 
-  -- a place that is told of this unit, with this rest, is the path
+  -- a place above which is this unit, with this rest, is the path
   place_of : (j : ℕ) (v : DocUnit) (r rest place : List ℕ) → slice_get vs j ≡ Some v → rest_in v r ≡ Some rest
       → unit_above 0 vs place ≡ (j, rest) → place ≡ r
   place_of j v r rest place there inside above =
@@ -306,7 +306,7 @@ module _ (ms : List Mod) (t w : WideTree) (us vs : List DocUnit) (pss : List Kep
       let off : None ≡ Some y.path = sym x.none ∙ y.has in
       cc
 
-  -- ---- what is kept now was kept there
+  -- ---- what is cached now was cached there
 
   came_along : (r : List ℕ) (trace : WideTrace) → now r ≡ Some trace → CameAlong ms t us pss ks r trace
   came_along r trace e = by (read vs new_parts new_strays r many_new)
@@ -364,7 +364,7 @@ module _ (ms : List Mod) (t w : WideTree) (us vs : List DocUnit) (pss : List Kep
             kept = m.kept;
           }
 
-  -- ---- what was kept there is kept now
+  -- ---- what was cached there is cached now
 
   -- what is below an old unit that is a new one is below that one
   stays_below : (i : ℕ) (c : (p : List ℕ) × CameUnit ms t us i p) (q r rest : List ℕ)
@@ -504,7 +504,7 @@ module _ (ms : List Mod) (t w : WideTree) (us vs : List DocUnit) (pss : List Kep
           moved_kept c.from r trace c.carried c.kept
           (λ i u a there inside. let off : None ≡ Some a = sym (h.outside i u there) ∙ inside in absurd (cc))
 
-  -- no two come to one path
+  -- no two are carried to one path
   from_once : (r : List ℕ) (a b : WideTrace) (x : CameAlong ms t us pss ks r a) (y : CameAlong ms t us pss ks r b)
       → x.from ≡ y.from
   from_once r a b x y =

@@ -1,4 +1,4 @@
--- What is kept at a path whose place in the document stays is kept there afterwards.
+-- What is cached at a path whose place in the document is carried to itself is cached there afterwards.
 use Rattle.std.proofs.Common.{◌≡◌, ℕ, Bool, true, false, List, [], ◌∷◌, ◌++◌, Some, refl, sym, ap, subst}
 use Rattle.std.proofs.Common.{◌∙◌}
 use Rattle.std.proofs.lemmas.List.{append_cancel_left}
@@ -21,7 +21,7 @@ use Rattle.tx_bridge.proofs.WithinUnit.{at_path, by_place, clash}
 abbrev AllLeadBelow : WideTree → List ℕ → KeptParts → Type 0
 AllLeadBelow t p ks = AllByRecursion (λ k. Leads t (Some (p ++ k.path))) ks
 
--- a path at which something is kept leads
+-- a path at which something is cached leads
 found_leads : (t : WideTree) (p : List ℕ) (ks : KeptParts) (q : List ℕ) (trace : WideTrace) → AllLeadBelow t p ks
     → kept_at ks q ≡ Some trace → Leads t (Some (p ++ q))
 found_leads t p [] q trace lead is = cc
@@ -33,7 +33,7 @@ found_leads t p (k ∷ ks) q trace lead is =
     by true e f later = subst (λ a. Leads t (Some (p ++ a))) ((bytes_eq-Decides k.path q).0 e) lead.0
     by false e f later = later f
 
--- at its own path the first tells
+-- at its own path the first one is read
 first_tells : (r q : List ℕ) (k : Stored) (ks : KeptParts) → bytes_eq r q ≡ true
     → kept_at (at_path k r ∷ ks) q ≡ k.trace
 first_tells r q k ks e = ap (λ b. if b then k.trace else kept_at ks q) e
@@ -45,7 +45,7 @@ other_tells r q k ks e = ap (λ b. if b then k.trace else kept_at ks q) e
 module _ (law : (m : Mod) (s : WideTree) (q : List ℕ) → CarriesSubtree m s q) (ms : List Mod) (t u : WideTree)
     (p q : List ℕ) (trace : WideTrace) (made : changed_by_all ms t ≡ Some u)
     (stays : carried_by_all ms t (p ++ q) ≡ Some (p ++ q)) (there : Leads t (Some (p ++ q))) where
-  -- a part with another path doesn't come to q
+  -- a part with another path isn't carried to q
   comes_elsewhere : (k : Stored) (r : List ℕ) → Leads t (Some (p ++ k.path)) → bytes_eq k.path q ≡ false
       → carried_by_all ms t (p ++ k.path) ≡ Some (p ++ r) → (b : Bool) → bytes_eq r q ≡ b → b ≡ false
   comes_elsewhere k r lead apart e false is = refl

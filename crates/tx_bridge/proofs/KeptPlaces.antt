@@ -53,7 +53,7 @@ in_split i j k (l ∷ w) same h =
     by_test (λ o. o ≡ Some (k ∷ l ∷ w)) (leb j l) (Some ((i + 1) ∷ (l - j) ∷ w)) (Some (i ∷ l ∷ w))
     (λ t. absurd (omega (arith, ltb-true l j h, leb-true j l t))) (λ f. ap (λ n. Some (n ∷ l ∷ w)) (sym same))
 
--- where the first number isn't behind child i, by the last test
+-- where the first number isn't after child i, by the last test
 split_front : (i j k : ℕ) (u : List ℕ) → k < i + 1 → (k ≡ i → carried_in_split i j u ≡ Some (k ∷ u))
     → carried_by_split i j (k ∷ u) ≡ Some (k ∷ u)
 split_front i j k u less here =
@@ -80,7 +80,7 @@ some_below : (r : List ℕ) → is_below r ≡ true → some_path r ≡ Some r
 some_below [] h = cc
 some_below (k ∷ u) h = refl
 
--- where the first number isn't behind child i, by the last test
+-- where the first number isn't after child i, by the last test
 join_front : (i n k : ℕ) (u : List ℕ) → k < i + 1
     → (k ≡ i → option_map (λ w. i ∷ w) (some_path u) ≡ Some (k ∷ u)) → carried_by_join i n (k ∷ u) ≡ Some (k ∷ u)
 join_front i n k u less here =
@@ -164,14 +164,14 @@ place_below m q s r inside is =
     ∙ ap (λ o. option_map_or (keeps_at m) (rest_behind (q ++ s) (q ++ r)) (not (is_some o))) (sym (rest_past q r s))
     ∙ ap (λ p. option_map_or (keeps_at m) (rest_behind p (q ++ r)) (not (is_some (rest_behind (q ++ r) p)))) (sym path)
 
--- a path begins with another where something stands behind that
+-- a path begins with another where there is a rest after that
 pub front_told : (q p : List ℕ) (b : Bool) → starts_with nat_eq p q ≡ b → is_some (rest_behind q p) ≡ b
 front_told q p true e = ap is_some (rest_of_is q p e)
 front_told q p false e = ap is_some (no_rest_of q p e)
 
 -- ---- one modification after the other
 
--- behind i modifications, which keep the place
+-- after i modifications, which keep the place
 pub record KeepsOn (base : List ℕ) (ms : List Mod) (q : List ℕ) (i : ℕ) : Type 0 where
   pub within : are_within base (drop i ms) ≡ true
   pub same : all_keep_place (drop i ms) q ≡ all_keep_place ms q

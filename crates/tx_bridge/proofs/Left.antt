@@ -1,4 +1,4 @@
--- A unit that is left as it is: its parts are what is kept of them wherever its trace can be used.
+-- A unit that is left as it is: its parts are the cached ones wherever its trace can be used.
 use Rattle.std.proofs.Common.{◌≡◌, ℕ, List, [], Option, Some, None, refl, ap, sym, subst, ◌∙◌, ◌⊎◌, inl, inr}
 use Rattle.std.specs.Prelude.{Bool, true, false, not, ◌&&◌, ◌||◌, if◌then◌else◌}
 use Rattle.std.specs.FinMap.{get}
@@ -28,7 +28,7 @@ use Rattle.tx_bridge.proofs.Spared.{AllDistinct, LayersFree, staying_charged, la
 use Rattle.tx_bridge.proofs.Staying.{stored_kept}
 use Rattle.tx_bridge.proofs.Used.{AllAgree, fits_is, parts_fit}
 
--- it has no parts, or there is no shell now, nor was one when these were kept
+-- it has no parts, or there is no shell now, and there was none when these were cached
 own_off : (a s t : Bool) → a && (s || t) ≡ false → a && t ≡ false
 own_off true true t h = cc
 own_off true false t h = h

@@ -1,4 +1,4 @@
--- What others have kept of the same units.
+-- What the spare has cached of the same units.
 use Rattle.std.proofs.Common.{◌≡◌, ℕ, zero, suc, ◌<◌, List, [], ◌∷◌, length, drop, slice_index_or}
 use Rattle.std.proofs.Common.{Option, Some, None, refl, ap, sym, subst, ◌∙◌}
 use Rattle.std.proofs.lemmas.Option.{same_Some, slice_get-get_or, slice_get_within}
@@ -76,7 +76,7 @@ bare_known sheller m u ls nested trace is =
     ap (λ b. if b
     then layer_costs_by (holds_in ls) sheller MOST_LEVELS (allowance m) u.tagged.tree (get m.env) else 0) nested
 
--- where it can be used, the unit comes to it
+-- where it can be used, it is the unit's outcome
 pub is_usable : (m : Moment) (u : DocUnit) (o : Option Bridge) (b : Bridge) → o ≡ Some b → IfSome o (IsSpareOf u)
     → can_be_used m (wide_outcome b.kept) ≡ true → IsUsable m u o b.kept
 is_usable m u o b is h fit =

@@ -106,7 +106,7 @@ unmarked_sound shelled u o ps h = record {
   all = λ off. subst (λ ks. AreItsParts u ks o) (sym (unmarked_kept ps)) (h.all off);
 }
 
--- what stays of a unit that isn't reached is sound
+-- what is left of a unit that isn't reached is sound
 pub left_sound : (b c : Bridge) → IsSoundBridge b
     → c ≡ record {
       unit = b.unit;
@@ -143,7 +143,7 @@ done_flags : (kept : Stores) (ps : List Part) (o : Option WideTrace)
 done_flags kept ps None = refl
 done_flags kept ps (Some trace) = flags_seen_in kept ps
 
--- those of the unit's parts, of which these were kept
+-- the flags of the unit's parts, of which these were cached
 pub walked_flags : (sheller : Sheller) (m : Moment) (u : DocUnit) (ks qs ds : List DonePart) (ps : List Part)
     (o : Option WideTrace) → has_parts u ≡ true → ps ≡ unit_parts_by sheller m u → o ≡ outcome_of m u
     → map seen ds ≡ seen_parts (stores_in ks qs) ps o
@@ -164,7 +164,7 @@ bare_flags sheller m u ks ds nested none =
 
 -- ---- of a unit that isn't reached each part is held
 
--- at the path of each part stands its trace
+-- at the path of each part its trace is cached
 abbrev pub AreKept : Store → List DonePart → Type 0
 AreKept kept ds = AllByRecursion (λ d. kept d.path ≡ Some (wide_trace d.trace)) ds
 

@@ -1,4 +1,4 @@
--- Names that are set from pairs of which no name stands twice.
+-- Names that are set from pairs in which no name is twice.
 use Rattle.std.proofs.Common.{◌≡◌, Bool, true, false, cond, List, [], ◌∷◌, length, refl, sym, ap, ◌∙◌, arith}
 use Rattle.std.specs.Prelude.{Some}
 use Rattle.std.specs.Option.{option_or}
@@ -38,7 +38,7 @@ overlaid_same m ws h =
     ∙ ap (λ o. option_or o (get m q)) (sym (get-from_entries nat_list_cmp_total ws q) ∙ get-entries (from_entries ws) q)
     ∙ sym (got m (entries (from_entries ws)) q (rising (entries (from_entries ws)) (entries_sorted (from_entries ws)))))
 
--- where no name is set, all stays
+-- where no name is set, all is unchanged
 pub none_set : (m : NameMap) (ws : List (Name × WideTree)) → length ws ≡ 0
     → overlaid m (entries (from_entries {R = slice_cmp nat_cmp} ws)) ≡ m
 unfolding IsDistinct

@@ -1,4 +1,4 @@
--- The parts of a unit that aren't found to stay, and where they stand afterwards.
+-- The parts of a unit that aren't found to keep their places, and where they are afterwards.
 use Rattle.std.proofs.Common.{◌≡◌, ℕ, zero, suc, ◌+◌, ◌<◌, List, [], ◌∷◌, ◌++◌, length, drop, map, refl, sym, ap}
 use Rattle.std.proofs.Common.{Option, Some, None, ◌∙◌, arith, get_or, subst}
 use Rattle.std.proofs.lemmas.Bool.Decides.{Decides-eqb}
@@ -34,7 +34,7 @@ and_same : (o : Option Stored) (ks : KeptParts) → and_some o ks ≡ and_part o
 and_same None ks = refl
 and_same (Some k) ks = refl
 
--- ---- others are put, and what is kept of them
+-- ---- others are put, and what is cached of them
 
 kept_and : (o : Option DonePart) (ps : List DonePart) → kept_parts (and_some o ps)
     ≡ and_some (option_map kept_part o) (kept_parts ps)
@@ -78,12 +78,12 @@ tidy_put i (o ∷ os) (p ∷ ps) h g =
     by true e f = tidy_and o.1 (put_from (i + 1) os ps) h.0 e
     by false e f = (g.0, f)
 
--- ---- each part is found to stay, or another one is put
+-- ---- each part is found to keep its place, or another one is put
 
 abbrev with_numbers : {B : Type 0} → (ℕ → Option B) → List ℕ → List (ℕ × Option B)
 with_numbers f ns = map (λ n. (n, f n)) ns
 
--- ---- where parts stand, as it is told
+-- ---- where parts are, by the list of others
 
 module _ (i : ℕ) (os : List (ℕ × Option (List ℕ))) (q : List ℕ) (qs : List (List ℕ)) where
   place_past : IsAhead i os → places_by i os (q ∷ qs) ≡ Some q ∷ places_by (i + 1) os qs
@@ -104,7 +104,7 @@ none_placed : (i : ℕ) (os : List (ℕ × Option (List ℕ))) → places_by i o
 none_placed i [] = refl
 none_placed i (o ∷ os) = refl
 
--- where one stands that is put, or nowhere
+-- where one is that is put, or nowhere
 abbrev place_of : Option Stored → Option (List ℕ)
 place_of o = option_map (λ (k : Stored). k.path) o
 
@@ -112,7 +112,7 @@ place_kept : (o : Option DonePart) → option_map (λ (d : DonePart). d.path) o 
 place_kept None = refl
 place_kept (Some d) = refl
 
--- what is kept of the others tells where they stand
+-- what is cached of the others says where they are
 moves_kept : (os : List (ℕ × Option DonePart)) → moves_of os ≡ map (λ k. (k.0, place_of k.1)) (stored_of os)
 moves_kept [] = refl
 moves_kept (o ∷ os) =
@@ -146,7 +146,7 @@ module _ (ms : List Mod) (t u : WideTree) (p : List ℕ) (made : changed_by_all 
       by true h = h
       by false h = differs k i (λ e. omega (arith, l, e))
 
-  -- the function answers what is kept of the parts, whose numbers begin with i, afterwards
+  -- the function gives what is cached of the parts afterwards, whose numbers begin with i
   abbrev Tells : (ℕ → Option Stored) → ℕ → List DonePart → Type 0
   Tells f i qs = (j : ℕ) (q : DonePart) → slice_get qs j ≡ Some q
       → f (i + j) ≡ part_at p (carried_by_all ms t (p ++ q.path)) (kept_part q)
@@ -178,7 +178,7 @@ module _ (ms : List Mod) (t u : WideTree) (p : List ℕ) (made : changed_by_all 
           ∙ ap (and_some (f i)) rest ∙ and_same (f i) (parts_behind ms t p (kept_parts qs))
           ∙ ap (λ o. and_part o (parts_behind ms t p (kept_parts qs))) (ap f (omega arith) ∙ h 0 q refl)
 
-  -- each part that is found to stay stands where it stood, and of each other one the function tells where
+  -- a part that is found to keep its place is where it was, and for each other one the function says where it is
   all_placed : (g : ℕ → Option (List ℕ)) (i : ℕ) (qs : List DonePart)
       → ((j : ℕ) (q : DonePart) → slice_get qs j ≡ Some q → g (i + j) ≡ carried_below ms t p q.path)
       → places_by i (with_numbers g (others_from ms p i qs)) (part_paths (kept_parts qs))
@@ -207,7 +207,7 @@ module _ (ms : List Mod) (t u : WideTree) (p : List ℕ) (made : changed_by_all 
           ∙ ap (λ os. g i ∷ os) rest
           ∙ ap (λ o. o ∷ map (carried_below ms t p) (part_paths (kept_parts qs))) (ap g (omega arith) ∙ h 0 q refl)
 
-  -- what is kept of the part of this number afterwards
+  -- what is cached of the part of this number afterwards
   abbrev there : List DonePart → ℕ → Option Stored
   there ps n = kept_there p ps n (through ms t (path_of_part p ps n))
 
@@ -221,7 +221,7 @@ module _ (ms : List Mod) (t u : WideTree) (p : List ℕ) (made : changed_by_all 
       ap (there ps) (omega arith) ∙ ap (λ o. option_and_then
       (λ (r : DonePart). part_at p (through ms t (option_map (λ (s : DonePart). p ++ s.path) o)) (kept_part r)) o) e
 
-  -- others whose places the modifications tell are those that aren't found to stay
+  -- others at the places to which the modifications lead are those that aren't found to keep their places
   pub moved_are : (ps : List DonePart) (os : List (ℕ × Option DonePart)) (ns : List ℕ)
       (paths places : List (Option (List ℕ))) → ns ≡ others_from ms p 0 ps → paths ≡ map (path_of_part p ps) ns
       → places ≡ map (through ms t) paths → stored_of os ≡ kept_others p ps ns places
@@ -251,7 +251,7 @@ module _ (ms : List Mod) (t u : WideTree) (p : List ℕ) (made : changed_by_all 
         tidy = tidy;
       }
 
-  -- where all are found to stay, there are none
+  -- where all are found to keep their places, there are none
   pub none_moved : (ps : List DonePart) (os : List (ℕ × Option DonePart)) → others_from ms p 0 ps ≡ [] → os ≡ []
       → (v : DocUnit) → v.path ≡ Some p → AreMovedParts ms t v (kept_parts ps) os
   none_moved ps os empty none =
@@ -310,7 +310,7 @@ number_next ms p ps i d ns after inside so_far pushed =
     by true = append_assoc ns [] (others_from ms p (i + 1) (drop (i + 1) ps))
     by false = append_assoc ns (i ∷ []) (others_from ms p (i + 1) (drop (i + 1) ps))
 
--- behind j of the others
+-- after j of the others
 pub record OthersSoFar (p : List ℕ) (ps : List DonePart) (ns : List ℕ) (places : List (Option (List ℕ)))
     (os : List (ℕ × Option DonePart)) (j : ℕ) : Type 0 where
   pub kept : stored_of os ++ kept_others p ps (drop j ns) (drop j places) ≡ kept_others p ps ns places

@@ -39,7 +39,7 @@ kept_left (m ∷ ps) n = by (m.to == n) (kept_left ps n)
     by true e = ap (λ ks. kept_part m.part ∷ ks) e
     by false e = e
 
--- what is true of each that is told is true of each that is left
+-- what is true of each move is true of each part that is left
 all_left : (P : PartMove → Type 0) (Q : DoneStray → Type 0) (n : ℕ) (ps : List PartMove)
     → ((m : PartMove) → m.to ≡ n → P m → Q (left_of m)) → AllByRecursion P ps → AllByRecursion Q (strays_left ps n)
 all_left P Q n [] f h = tt

@@ -1,4 +1,4 @@
--- What is kept of parts goes with a unit.
+-- What is cached of parts is carried with a unit.
 use Rattle.std.proofs.Common.{◌≡◌, ℕ, List, [], map, Option, Some, None, refl, ap, sym, ◌∙◌, subst}
 use Rattle.std.specs.Prelude.{Bool, false, ◌&&◌, is_some, if◌then◌else◌}
 use Rattle.std.specs.Option.{option_map}
@@ -18,12 +18,12 @@ use Rattle.tx_bridge.specs.PartsKept.{KeptParts, has_parts, unit_parts_by, parts
 use Rattle.tx_bridge.specs.HeldParts.{HoldsPart, PartsHold, AreItsParts, kept_parts}
 use Rattle.tx_bridge.specs.UnitLists.{HasPathIfBody}
 
--- nothing is kept
+-- nothing is cached
 pub no_parts : (shelled : Bool) (u : DocUnit) → PartsHold shelled u None []
 unfolding IsDistinct
 no_parts shelled u = record { hold = tt; distinct = tt; all = λ off. tt }
 
--- so it is where the unit isn't nested
+-- nothing is cached of the parts of a unit that isn't nested
 pub bare_parts : (shelled : Bool) (u : DocUnit) (o : Option WideTrace) → has_parts u ≡ false
     → PartsHold shelled u o []
 unfolding IsDistinct

@@ -1,4 +1,4 @@
--- A refresh that has come to some unit.
+-- A refresh at some unit, before which all units are up to date.
 use Rattle.std.proofs.Common.{◌≡◌, ℕ, zero, suc, ◌+◌, ◌<◌, ◌≤◌, List, [], ◌∷◌, ◌++◌, length, take, drop, slice_set, map}
 use Rattle.std.proofs.Common.{slice_index_or, refl, ap, sym, subst, ◌∙◌, arith, ◌⊎◌, inl, inr}
 use Rattle.std.proofs.lemmas.List.{drop_more, drop-drop, drop-set-lt, append_assoc, take_more_set, take_at}
@@ -37,13 +37,13 @@ abbrev pub Stays : List Bridge → List Bridge → Type 0
 Stays old now = (k : ℕ) → slice_get (flags_of now) k ≡ Some false
     → slice_get (entries_of now) k ≡ slice_get (entries_of old) k
 
--- so are their parts
+-- the parts of unflagged units are as they were
 abbrev pub SameParts : List Bridge → List Bridge → Type 0
 SameParts old now = (k : ℕ) → slice_get (flags_of now) k ≡ Some false
     → slice_get (stored_parts_in now) k ≡ slice_get (stored_parts_in old) k
 
--- Behind i units, at the moment m, with these charges, of a refresh from the moment `start` with these spares. What is
--- done, and what is left from here, are all. Where the flag is set, what is left settles from what names have.
+-- After i units, at the moment m, with these charges, of a refresh from the moment `start` with these spares. What is
+-- done, and what is left from here, are all. Where the flag is set, what is left agrees with what names have.
 pub record Partway (sheller : Sheller) (old now : List Bridge) (spares : Spares) (start : Moment) (i : ℕ) (m : Moment)
     (flag : Bool) (before after spent : ℕ) : Type 0 where
   pub paid : after ≡ before + spent
@@ -126,7 +126,7 @@ get_dropped f [] (suc i) b rest e = cc
 get_dropped f (x ∷ xs) zero b rest e = let same : x ≡ b = cc in ap (λ y. Some (f y)) same
 get_dropped f (x ∷ xs) (suc i) b rest e = get_dropped f xs i b rest e
 
--- the unit is brought to what it comes to at the moment
+-- the unit is brought to its outcome at the moment
 pub record IsBrought (sheller : Sheller) (b y : Bridge) (m : Moment) : Type 0 where
   pub unit : y.unit ≡ b.unit
   pub fresh : wide_outcome y.kept ≡ outcome_of m b.unit
@@ -168,7 +168,7 @@ module _ (sheller : Sheller) (old now : List Bridge) (spares : Spares) (start : 
   settled_here : flag ≡ true → AreSettled m.env (kept_unit b ∷ entries_of (drop (i + 1) old))
   settled_here e = subst (λ bs. AreSettled m.env (entries_of bs)) ahead (p.settled e)
 
-  -- where all settles, the next looks agree
+  -- where all agree, the next looks agree
   pub agrees_next : flag ≡ true → AgreesWith m.env (wide_outcome (slice_index_or now i d).kept)
   unfolding b
   agrees_next e = (settled_here e).0
@@ -384,7 +384,7 @@ drop_entries zero bs = refl
 drop_entries (suc n) [] = refl
 drop_entries (suc n) (b ∷ bs) = drop_entries n bs
 
--- stopped behind i units
+-- stopped after i units
 stopped : (start : Moment) (old now : List Bridge) (i : ℕ) (m : Moment)
     → entries_of (take i now) ++ fresh_from m (units_in (drop i old)) ≡ fresh_from start (units_in old)
     → drop i now ≡ drop i old → i ≤ length now
@@ -430,7 +430,7 @@ parts_stopped sheller start old now i m fresh rest inside =
     ∙ ap (λ bs. take i (fresh_parts_by_from sheller start (units_in old)) ++ stored_parts_in bs) rest
     ∙ ap (λ ks. take i (fresh_parts_by_from sheller start (units_in old)) ++ ks) (drop_parts i old)
 
--- the refresh of unit i failed, before or behind its evaluation
+-- the refresh of unit i failed, before or after its evaluation
 pub stops : (sheller : Sheller) (old now : List Bridge) (spares : Spares) (start : Moment) (i : ℕ) (m : Moment)
     (flag : Bool)
     (before after spent : ℕ) → Partway sheller old now spares start i m flag before after spent → i < length now
@@ -462,7 +462,7 @@ stops sheller old now spares start i m flag before after spent p inside d y unit
           (rest_next sheller old now spares start i m flag before after spent p inside d y),
     )
 
--- all units are behind
+-- after all units
 pub ended : (sheller : Sheller) (old now : List Bridge) (spares : Spares) (start : Moment) (i : ℕ) (m : Moment)
     (flag : Bool)
     (before after spent : ℕ) → Partway sheller old now spares start i m flag before after spent → length now ≤ i

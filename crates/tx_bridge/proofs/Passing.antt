@@ -1,4 +1,4 @@
--- A path that goes through modifications, by the trees before each of them.
+-- A path that is carried through modifications, by the trees before each of them.
 use Rattle.std.proofs.Common.{◌≡◌, ℕ, zero, suc, ◌+◌, ◌<◌, ◌≤◌, List, [], ◌∷◌, ◌++◌, length, drop, slice_index_or, map}
 use Rattle.std.proofs.Common.{Option, Some, None, Ok, Err, refl, ap, sym, ◌∙◌, subst, arith, take}
 use Rattle.std.proofs.lemmas.List.{drop_more, append_assoc, append-nil, length-drop, drop_all, take_more}
@@ -20,9 +20,9 @@ use Rattle.tx_bridge.proofs.Arrived.{lead_one}
 use Rattle.tx_bridge.specs.Courses.{trees_before, IsPassage}
 use Rattle.tx_bridge.proofs.Going.{first_applies}
 
--- ---- the trees are kept
+-- ---- the trees are collected
 
--- Behind i modifications, at the tree u, with the trees before each of them.
+-- After i modifications, at the tree u, with the trees before each of them.
 pub record Passing (ms : List Mod) (i : ℕ) (ts : List WideTree) (t u : WideTree) (before after : ℕ) : Type 0 where
   pub trees : ts ++ trees_before (drop i ms) u ≡ trees_before ms t
   pub applies : (v : WideTree) × (changed_by_all (drop i ms) u ≡ Some v)
@@ -79,9 +79,9 @@ pub passed : (ms : List Mod) (i : ℕ) (ts : List WideTree) (t u : WideTree) (be
 passed ms i ts t u before after g e =
     sym (append-nil ts) ∙ ap (λ xs. ts ++ xs) (sym (ap (λ ns. trees_before ns u) e)) ∙ g.trees
 
--- ---- a path goes along them
+-- ---- a path is carried along them
 
--- Behind i modifications of a passage that begins at t, the path leads in the tree that is there.
+-- After i modifications of a passage that begins at t, the path leads in the tree that is there.
 pub record Along (ms : List Mod) (ts : List WideTree) (t : WideTree) (i : ℕ) (old now : List ℕ) : Type 0 where
   pub tree : WideTree
   pub trees : drop i ts ≡ trees_before (drop i ms) tree
@@ -202,7 +202,7 @@ pub along_whole : (ms : List Mod) (ts : List WideTree) (t : WideTree) (i : ℕ) 
 along_whole ms ts t i old now a all =
     sym (ap (λ ns. carried_by_all ns a.tree now) (drop_all i ms all)) ∙ a.place
 
--- ---- where units stand
+-- ---- where units are
 
 pub unit_leads : (t : WideTree) (bs : List Bridge) (i : ℕ) (b : Bridge) → AllStand t (bodies_of bs) → i < length bs
     → b ≡ slice_index_or bs i b → Leads t b.unit.path

@@ -23,7 +23,7 @@ use Rattle.tx_bridge.proofs.Used.{AllAllowed}
 abbrev pub moment_at : Environment → ℕ → Moment
 moment_at e left = record { env = e.map; left = left }
 
--- what evaluation in this environment with so many steps comes to is the outcome at the moment
+-- what evaluation in this environment with so many steps gives is the outcome at the moment
 pub outcome_at : (t : TaggedTree) (m : Moment) (e : Environment) (left n : ℕ) (o : Option WideTrace)
     → moment_at e left ≡ m → n ≡ min MOST_UNIT_STEPS left → o ≡ evaluated t (before_of e) n → o ≡ outcome t m
 unfolding outcome
@@ -37,7 +37,7 @@ charge_at t m e left n o seen same h =
     ap (λ k. paid k o) (same ∙ ap (λ (k : Moment). min MOST_UNIT_STEPS k.left) seen)
     ∙ ap (charge m) (outcome_at t m e left n o seen same h)
 
--- ---- the moment behind a unit
+-- ---- the moment after a unit
 
 pub behind_over : (m : Moment) (e : Environment) (left n : ℕ) (o : Outcome) → moment_at e left ≡ m
     → n ≡ min MOST_UNIT_STEPS left → o ≡ Over → moment_at e (left - n) ≡ behind m (wide_outcome o)

@@ -1,4 +1,4 @@
--- Some elements of a list are replaced or go.
+-- Some elements of a list are replaced or dropped.
 use Rattle.std.proofs.Common.{◌≡◌, ℕ, ◌+◌, ◌<◌, ◌≤◌, List, [], ◌∷◌, ◌++◌, length, drop, take, get_or, refl}
 use Rattle.std.proofs.Common.{Option, sym, ap, ◌∙◌, arith, slice_set}
 use Rattle.std.proofs.lemmas.Bool.Decides.{Decides-eqb}
@@ -19,7 +19,7 @@ IsAhead i [] = Unit {0}
 IsAhead i (o ∷ os) = o.0 == i ≡ false
 
 module _ {A : Type 0} where
-  -- an element of another number stays
+  -- an element of another number is unchanged
   pub put_past : (i : ℕ) (os : List (ℕ × Option A)) (x : A) (xs : List A) → IsAhead i os
       → put_from i os (x ∷ xs) ≡ x ∷ put_from (i + 1) os xs
   put_past i [] x xs h = refl
@@ -57,7 +57,7 @@ module _ {A : Type 0} where
         ∙ ap (λ ys. take at old ++ ys)
         (sym (stays (get_or old i d) (drop (i + 1) old)) ∙ ap (put_from i os) (sym (drop_more old i d inside)))
 
-    -- it goes
+    -- it is dropped
     pub gone_same : ((x : A) (xs : List A) → put_from i os (x ∷ xs) ≡ put_from (i + 1) later xs)
         → take at old ++ put_from (i + 1) later (drop (i + 1) old) ≡ take at old ++ put_from i os (drop i old)
     gone_same goes =
@@ -81,7 +81,7 @@ module _ {A : Type 0} where
         ∙ ap (λ ys. take at old ++ ys)
         (sym (puts next.0 (drop (i + 1) old)) ∙ ap (put_from i os) (sym next.1))
 
-  -- Behind i elements of xs, of which `at` stay or are put, and k others of os.
+  -- After i elements of xs, of which `at` are unchanged or replaced, and k others of os.
   pub record PutSoFar (xs now : List A) (os left : List (ℕ × Option A)) (i at k : ℕ) : Type 0 where
     pub same : take at now ++ put_from i (drop k left) (drop i now) ≡ put_from 0 os xs
     pub order : at ≤ i

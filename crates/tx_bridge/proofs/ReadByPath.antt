@@ -1,4 +1,4 @@
--- What is kept, read by paths of the document, and what moves bring.
+-- What is cached, read by paths of the document, and what moves bring.
 use Rattle.std.proofs.Common.{◌≡◌, ℕ, zero, suc, ◌+◌, Bool, true, false, List, [], ◌∷◌, ◌++◌, length}
 use Rattle.std.proofs.Common.{Option, Some, None, refl, sym, ap, subst, ◌∙◌, arith, ◌⊎◌, inl, inr}
 use Rattle.std.proofs.lemmas.Bool.Decides.{Decides-eqb}
@@ -57,14 +57,14 @@ pub all_onto : {A : Type 0} (P : A → Type 0) (xs ys : List A) → AllByRecursi
 all_onto P [] ys h g = g
 all_onto P (x ∷ xs) ys h g = (h.0, all_onto P xs ys h.1 g)
 
--- ---- what is kept at a path
+-- ---- what is cached at a path
 
--- this trace is kept at this path
+-- this trace is cached at this path
 pub record KeepsTrace (q : List ℕ) (trace : WideTrace) (k : Stored) : Type 0 where
   pub path : k.path ≡ q
   pub is : k.trace ≡ Some trace
 
--- a trace is kept
+-- a trace is cached
 pub record IsTraced (k : Stored) : Type 0 where
   pub trace : WideTrace
   pub is : k.trace ≡ Some trace
@@ -86,7 +86,7 @@ never_again (k ∷ ks) a q trace apart (inl h) same =
     let off : false ≡ true = sym apart.0 ∙ (bytes_eq-Decides a k.path).1 (same ∙ sym h.path) in cc
 never_again (k ∷ ks) a q trace apart (inr h) same = never_again ks a q trace apart.1 h same
 
--- where no two have one path, it is told
+-- where no two have one path, it is what is read
 pub told_by : (ks : KeptParts) (q : List ℕ) (trace : WideTrace) → IsDistinct bytes_eq (part_paths ks)
     → AnyOf (KeepsTrace q trace) ks → kept_at ks q ≡ Some trace
 told_by [] q trace d h = absurd h
@@ -102,7 +102,7 @@ told_by (k ∷ ks) q trace d (inr h) =
         ((bytes_eq-Decides k.path q).0 e))
     by false e later = later
 
--- some trace is kept at a path that one of them has
+-- some trace is cached at a path that one of them has
 pub record IsSomeTrace (o : Option WideTrace) : Type 0 where
   pub trace : WideTrace
   pub is : o ≡ Some trace
@@ -130,9 +130,9 @@ pub all_traced : (t : WideTree) (ks : KeptParts) → AllByRecursion (StoredHolds
 all_traced t [] h = tt
 all_traced t (k ∷ ks) h = (record { trace = h.0.trace; is = h.0.is }, all_traced t ks h.1)
 
--- ---- what is kept at a path of the document
+-- ---- what is cached at a path of the document
 
--- it is what is kept of a unit's part
+-- it is what is cached of a unit's part
 pub record ReadIn (us : List DocUnit) (pss : List KeptParts) (q : List ℕ) (o : Option WideTrace) : Type 0 where
   pub number : ℕ
   pub unit : DocUnit
@@ -143,7 +143,7 @@ pub record ReadIn (us : List DocUnit) (pss : List KeptParts) (q : List ℕ) (o :
   pub inside : rest_in unit q ≡ Some rest
   pub tells : o ≡ kept_at parts rest
 
--- it is what is kept of a stray
+-- it is what is cached of a stray
 pub record ReadAside (us : List DocUnit) (ks : KeptParts) (q : List ℕ) (o : Option WideTrace) : Type 0 where
   pub outside : NoneAbove q us
   pub tells : o ≡ kept_at ks q
@@ -266,7 +266,7 @@ arrived_traced (m ∷ ns) j h = by (m.to == j) (arrived_traced ns j h.1)
 module _ (ms : List Mod) (t : WideTree) (vs : List DocUnit) where
   -- ---- of the parts of one unit
 
-  -- it comes from a part of the unit at p, of whose parts this is kept
+  -- it is from a part of the unit at p, of whose parts this is cached
   pub record BroughtBelow (p : List ℕ) (ks : KeptParts) (j : ℕ) (q : List ℕ) (trace : WideTrace) : Type 0 where
     pub path : List ℕ
     pub place : List ℕ

@@ -1,4 +1,4 @@
--- New units to which parts have come, and to which old ones then give what is kept of them.
+-- New units to which parts have moved, and to which old ones then give what is cached of them.
 use Rattle.std.proofs.Common.{◌≡◌, ℕ, zero, suc, ◌+◌, ◌<◌, Bool, List, [], ◌∷◌, ◌++◌, length, map, Option, Some, None}
 use Rattle.std.proofs.Common.{refl, ap, sym}
 use Rattle.std.proofs.Common.{◌∙◌, subst, arith}
@@ -53,7 +53,7 @@ arrived_bare ms j [] (w ∷ ws) h = absurd h
 arrived_bare ms j (u ∷ us) [] h = absurd h
 arrived_bare ms j (u ∷ us) (w ∷ ws) h = (h.0, arrived_bare ms (j + 1) us ws h.1)
 
--- the new units with the parts that have come to them
+-- the new units with the parts that have moved to them
 abbrev pub coming : List PartMove → List DocUnit → List Bridge
 coming ms us = with_arrived ms 0 (map fresh_bridge us)
 
@@ -87,7 +87,7 @@ pub coming_placed : (ms : List PartMove) (us : List DocUnit) → AllByRecursion 
 coming_placed ms us placed k b at =
     each_placed us k b.unit placed (unit_at us (coming ms us) k b (coming_bare ms us) at)
 
--- ---- where old ones stand
+-- ---- where old ones are
 
 module _ (ms : List Mod) (t : WideTree) (old bs : List Bridge) (places read : List (Option (List ℕ)))
     (is_places : places ≡ map (through ms t) (paths_in old)) (is_read : read ≡ places) (is_bs : bs ≡ old) where
@@ -106,14 +106,14 @@ module _ (ms : List Mod) (t : WideTree) (old bs : List Bridge) (places read : Li
       ∙ ap (λ cs. given_all 0 (map (through ms t) (paths_in old)) cs new) is_bs
       ∙ ap (given_all 0 (map (through ms t) (paths_in old)) old) is_new
 
--- the places that a course tells
+-- the places that a course has
 pub course_places : (ms : List Mod) (t : WideTree) (kept : Kept) (old : List Bridge) (places : List (Option (List ℕ)))
     → entries_of old ≡ kept → places ≡ unit_places_after ms t (units_of kept)
     → places ≡ map (through ms t) (paths_in old)
 course_places ms t kept old places was is =
     is ∙ ap (unit_places_after ms t) (sym (ap units_of was) ∙ units_bodies old) ∙ sym (places_same ms t old)
 
--- ---- what is kept of parts
+-- ---- what is cached of parts
 
 kept_of_one : Bridge → KeptParts
 kept_of_one b = kept_parts b.parts
@@ -149,7 +149,7 @@ given_parts ps ms t old us =
     ∙ ap (all_parts_now (stored_parts_in old) (map seen_move ps) 0)
     (sym (given_got number_given source_in (λ i b w. refl) 0 (map (through ms t) (paths_in old)) old (coming ps us)))
 
--- ---- what is kept of layers
+-- ---- what is cached of layers
 
 layers_found : (bs : List Bridge) (n k : ℕ) (b : Bridge) → n ≡ 0 + k → slice_get bs k ≡ Some b
     → layers_now (layers_in bs) (Some n) ≡ b.layers
@@ -189,7 +189,7 @@ received_layers ps ms t lss us old result had is =
     ∙ ap (λ bs. map (layers_now (layers_in old)) (sources_in bs)) (sym is)
     ∙ ap (λ ks. map (layers_now ks) (sources_in result)) had
 
--- ---- what has come holds
+-- ---- what has moved holds
 
 held_parts : (ms : List Mod) (t : WideTree) (vs : List DocUnit) (bs : List Bridge) → AllByRecursion IsSoundBridge bs
     → AllHoldParts ms t vs (bodies_of bs) (stored_parts_in bs)
@@ -379,7 +379,7 @@ module _ (buffer : ℕ) (ms : List Mod) (t : WideTree) (kept : Kept) (pss : List
         subst (λ xs. StandAside u (strays_in xs)) (sym is)
         (stand_left (MayFollow buffer ms t ss) (length us) c.moves.items course.trees u after)
 
--- the document behind an edit
+-- the document after an edit
 pub behind_document : (buffer : ℕ) (ms : List Mod) (t : WideTree) (ss : List Stray) (u : WideTree) → buffer ≡ 0
     → changed_by_all ms t ≡ Some u → MayFollow buffer ms t ss u
 behind_document zero ms t ss u e made = made

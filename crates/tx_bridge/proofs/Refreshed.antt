@@ -1,4 +1,4 @@
--- All units behind a refresh.
+-- All units after a refresh.
 use Rattle.std.proofs.Common.{◌≡◌, ℕ, ◌++◌, List, [], ◌∷◌, length, take, drop, map, ap, sym, subst, ◌∙◌}
 use Rattle.std.proofs.Common.{arith}
 use Rattle.std.specs.Prelude.{Some, false, slice_get}
@@ -46,7 +46,7 @@ refused sheller m start old items whole kept parts layers is same had were known
     (subst (λ pss. Refused sheller m (entries_of old) pss layers items) were
     (subst (λ lss. Refused sheller m (entries_of old) (stored_parts_in old) lss items) known h))))
 
--- without names the refresh begins with none set, and leaves what settles in itself
+-- without names the refresh begins with none set, and what it leaves agrees with itself
 none_set : (m : Moment) (start : List (Name × WideTree)) → m ≡ beginning_with start → length start ≡ 0
     → m.env ≡ empty
 none_set m [] is none = ap (λ (k : Moment). k.env) is

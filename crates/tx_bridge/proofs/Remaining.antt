@@ -1,4 +1,4 @@
--- What is kept of a part that isn't evaluated anew is what was kept at its path.
+-- What is cached of a part that isn't evaluated anew is what was cached at its path.
 use Rattle.std.proofs.Common.{◌≡◌, ℕ, zero, suc, ◌<◌, leb, List, [], ◌∷◌, map, Option, Some, None, refl, ap, sym, subst}
 use Rattle.std.proofs.Common.{◌∙◌, ◌⊎◌, inl, inr, arith}
 use Rattle.std.proofs.lemmas.Bool.{leb-true, leb-false}
@@ -46,7 +46,7 @@ AllTraced = (sheller : Sheller) → IsSheller sheller → (k c : ℕ) (path : Li
 
 -- ---- one part
 
--- where a tree comes to a trace, this is one that supports it and agrees
+-- where a tree has an outcome, a trace that supports the tree and agrees is this outcome
 pub only_one : AllOver → (k c : ℕ) (t : TaggedTree) (e : Before) (trace come : WideTrace) → Supports trace t
     → Agrees e trace.looks → evaluated_in k c t e ≡ Some come → Some trace ≡ evaluated_in k c t e
 only_one over k c t e trace come support agree is =
@@ -70,7 +70,7 @@ unflagged true h = refl
 unflagged false h = cc
 
 module _ (over : AllOver) (t : WideTree) (ds : List DonePart) (hold : AllByRecursion (HoldsPart t) ds) where
-  -- what is kept at the part's path supports the part's tree
+  -- what is cached at the part's path supports the part's tree
   supports_part : (p : Part) (trace : WideTrace) → StandsIn [] t p → kept_at (kept_parts ds) p.path ≡ Some trace
       → Supports trace (alone p.tree)
   supports_part p trace stands is =

@@ -1,4 +1,4 @@
--- Where one unit alone changes, what is given stands in its place already.
+-- Where one unit alone changes, what is given is in its place already.
 use Rattle.std.proofs.Common.{◌≡◌, ℕ, zero, suc, ◌+◌, List, [], ◌∷◌, ◌++◌, length, drop, map, slice_set}
 use Rattle.std.proofs.Common.{slice_index_or, Option, Some, None, refl, ap, sym, ◌∙◌, subst, arith}
 use Rattle.std.proofs.lemmas.Bool.Decides.{Decides-eqb}
@@ -32,7 +32,7 @@ use Rattle.tx_bridge.proofs.Handed.{gives_none, gives_some, given_apart, given_p
 use Rattle.tx_bridge.proofs.Arrived.{fresh_apart, fresh_placed, sound_placed, of_document}
 use Rattle.tx_bridge.proofs.Inside.{IsNoFront, begins_is, fronts_meet, all_stay, all_go}
 
--- ---- units that are alike, and what stands in its place
+-- ---- units that are alike, and what is in its place
 
 -- the units have one path, or, where the first has none, one kind and tree
 abbrev is_alike : DocUnit → DocUnit → Bool
@@ -41,7 +41,7 @@ is_alike u v = option_map_or (λ p. is_path p v.path) u.path (same_unit u v)
 abbrev AreAlike : List DocUnit → List DocUnit → Type 0
 AreAlike us vs = (k : ℕ) (u v : DocUnit) → slice_get us k ≡ Some u → slice_get vs k ≡ Some v → is_alike u v ≡ true
 
--- the unit of number k is u now; nothing is kept of it where it is new
+-- the unit of number k is u now; nothing is cached of it where it is new
 abbrev pub settled_one : Bool → ℕ → Bridge → DocUnit → Bridge
 settled_one true k b u = fresh_bridge u
 settled_one false k b u = record {
@@ -54,7 +54,7 @@ settled_one false k b u = record {
   source = Some k;
 }
 
--- so it is of all from number k on, where number i is new
+-- the units from number k on, where number i is new
 abbrev pub settled : ℕ → ℕ → List Bridge → List DocUnit → List Bridge
 settled i k [] us = []
 settled i k (b ∷ bs) [] = []
@@ -76,8 +76,8 @@ get_behind [] x ys (suc n) e = absurd (omega (arith, e))
 get_behind (z ∷ xs) x ys zero e = absurd (omega (arith, e))
 get_behind (z ∷ xs) x ys (suc n) e = get_behind xs x ys n (omega (arith, e))
 
--- The place of the old unit b of number k, and the new unit u of this number: they are alike, and b stands where it
--- stood, but number i stands nowhere and has a path.
+-- The place of the old unit b of number k, and the new unit u of this number. They are alike, and b is where it was.
+-- But number i is nowhere, and has a path.
 pub record Settles (i k : ℕ) (place : Option (List ℕ)) (b : Bridge) (u : DocUnit) : Type 0 where
   pub alike : is_alike b.unit u ≡ true
   pub placed : HasPathIfBody b.unit
@@ -157,7 +157,7 @@ module _ (P : Option (List ℕ) → Option (List ℕ)) (i : ℕ) where
       (λ m n c v e f g. h m (suc n) c v (omega (arith, e)) f g)
       ∙ append_assoc done (x ∷ []) (settled i (k + 1) bs us)
 
--- ---- where old units stand
+-- ---- where old units are
 
 apart_here : (o : Option (List ℕ)) (us : List DocUnit) (k : ℕ) (w : DocUnit)
     → AllByRecursion (λ v. PathsApart o v.path) us → slice_get us k ≡ Some w → PathsApart o w.path

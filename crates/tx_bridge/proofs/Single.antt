@@ -10,7 +10,7 @@ use Rattle.tx_bridge.specs.Carrying.{is_path, same_unit, number_at, same_number,
 use Rattle.tx_bridge.specs.Slots.{HaveOwnPaths, AreMoved, AllPlaced, fresh_bridge, bodies_of}
 use Rattle.tx_bridge.proofs.Slotting.{path_is, back_alike, some_once}
 
--- no number stands twice
+-- no number is there twice
 abbrev pub NoneTwice : List (Option ℕ) → Type 0
 NoneTwice ss = (i j k : ℕ) → slice_get ss j ≡ Some (Some i) → slice_get ss k ≡ Some (Some i) → j ≡ k
 
@@ -44,7 +44,7 @@ number_found p n (q ∷ qs) o i e =
 
 -- ---- what a source says
 
--- the old unit of number i stands at the path of the new one
+-- the old unit of number i is at the path of the new one
 pub record ByPath (qs : List (Option (List ℕ))) (v : DocUnit) (i : ℕ) : Type 0 where
   pub path : List ℕ
   pub has : v.path ≡ Some path
@@ -120,7 +120,7 @@ fresh_at us k v e = slice_get-map fresh_bridge us k ∙ ap (option_map fresh_bri
 module _ (qs : List (Option (List ℕ))) (old : List Bridge) (us : List DocUnit) (moved : AreMoved qs old)
     (placed : AllPlaced old) (apart : HaveOwnPaths (map fresh_bridge us)) (fresh : AllPlaced (map fresh_bridge us))
   where
-    -- an old unit that stands at a path has no new one by its number
+    -- an old unit that is at a path has no new one by its number
     not_both : (i : ℕ) (p : List ℕ) (k : ℕ) (w : DocUnit) → slice_get qs i ≡ Some (Some p) → slice_get us k ≡ Some w
         → ByNumber (bodies_of old) k w i → ⊥
     not_both i p k w place at y =

@@ -114,7 +114,7 @@ miss_all test new i h past k w e =
 abbrev stays_at : Option (List ℕ) → Option (List ℕ) → ℕ → DocUnit → ℕ → DocUnit → Bool
 stays_at own place i u k v = option_map_or (λ p. is_path p place) own (i == k && same_unit u v)
 
--- what stays without a place is the one of the same number
+-- where v has no path, it is the unit of the same number
 stays_same : (o : Option (List ℕ)) (i : ℕ) (u : DocUnit) (k : ℕ) (v : DocUnit) → stays_at o None i u k v ≡ true
     → (i ≡ k) × (same_unit u v ≡ true)
 stays_same (Some p) i u k v h = cc
@@ -226,7 +226,7 @@ pub order_all : (first : ℕ) (new : List Bridge) (i : ℕ) → InOrderTo first 
 order_all first new i h past k w e =
     let inside : k < length new = slice_get_within new k w e in h k w (omega (arith, inside, past)) e
 
--- no unit has the path where the one behind number `first` by its last number hasn't
+-- where the unit that is the path's last number after number `first` doesn't have the path, no unit has it
 pub ordered_none : (p : List ℕ) (new : List Bridge) (first : ℕ) → AreInOrder first new
     → ((n : ℕ) (w : Bridge) → last_number p ≡ Some n → slice_get new (first + n) ≡ Some w
     → is_path p w.unit.path ≡ false) → IsPathSlot p new None

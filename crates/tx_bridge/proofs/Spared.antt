@@ -1,4 +1,5 @@
--- A unit that stays, or whose spare fits, is charged for its layers alone. What is charged where nothing is spare.
+-- A unit that isn't reached, or whose spare fits, is charged for its layers alone. What is charged where nothing is
+-- spare.
 use Rattle.std.proofs.Common.{◌≡◌, ℕ, ◌+◌, List, [], ◌∷◌, map, Option, Some, refl, ap, sym, subst, ◌∙◌}
 use Rattle.std.proofs.Common.{leb-true, arith}
 use Rattle.std.proofs.lemmas.Slice.Eq.{bytes_eq-Decides}
@@ -90,7 +91,7 @@ layers_unseen free m (e ∷ es) (ps ∷ pss) lss ss =
 
 -- ---- parts that are held
 
--- what is kept at the path of each fits
+-- what is cached at the path of each fits
 abbrev pub AllServed : Store → List Part → Type 0
 AllServed kept ps = AllByRecursion (λ p. serves kept p ≡ true) ps
 
@@ -129,7 +130,7 @@ spare_all_free own spare ps h =
     (each_by {P = λ p. serves spare p ≡ true} {Q = λ p. part_charge (both_stores own spare) p ≡ 0} ps
     (spare_held own spare) h)
 
--- ---- parts that are kept are served
+-- ---- parts that are cached are served
 
 served_behind : (k : Stored) (ks : KeptParts) (ps : List Part)
     → AllByRecursion (λ y. bytes_eq k.path y ≡ false) (map (λ q. q.path) ps) → AllServed (kept_at ks) ps
@@ -157,13 +158,13 @@ kept_served (k ∷ ks) (p ∷ ps) distinct is =
           (kept_served ks ps distinct.1 tests.1),
     )
 
--- ---- a unit that stays
+-- ---- a unit that isn't reached
 
 module _ (distinct : AllDistinct) (sheller : Sheller) (m : Moment) (u : DocUnit) where
   parts_distinct : IsDistinct bytes_eq (map (λ p. p.path) (unit_parts_by sheller m u))
   parts_distinct = distinct sheller MOST_LEVELS (allowance m) [] u.tagged.tree (get m.env)
 
-  -- where its parts are kept, or are spare, it is charged for its layers
+  -- where its parts are cached, or are spare, it is charged for its layers
   own_parts_free : (ks spare : KeptParts) (ls rs : List TreeTrace) → are_kept ks (unit_parts_by sheller m u) ≡ true
       → parts_charge_by sheller m u ks spare ls rs
       ≡ layer_costs_by (holds_either ls rs) sheller MOST_LEVELS (allowance m) u.tagged.tree (get m.env)

@@ -1,4 +1,4 @@
--- Units that stay, with their parts.
+-- Units that aren't reached, with their parts.
 use Rattle.std.proofs.Common.{◌≡◌, ℕ, suc, ◌+◌, ◌<◌, ◌≤◌, List, [], ◌∷◌, length, drop, map, Option, Some, None}
 use Rattle.std.proofs.Common.{slice_index_or, refl, ap, sym, subst, ◌∙◌, arith}
 use Rattle.std.proofs.lemmas.List.{drop_more, drop_all}
@@ -41,7 +41,7 @@ use Rattle.tx_bridge.proofs.Remaining.{AllOver, AllTraced, only_one}
 use Rattle.tx_bridge.proofs.Taking.{heads}
 use Rattle.tx_bridge.proofs.Used.{AllAgree, fits_is, parts_fit}
 
--- ---- parts with the traces that they come to are kept
+-- ---- parts that are cached with their traces
 
 one_kept : AllAgree → (p : Part) → HasTrace p → is_kept (stored_part p) p ≡ true
 one_kept agree p traced =
@@ -54,7 +54,7 @@ stored_kept agree [] traced = refl
 stored_kept agree (p ∷ ps) traced =
     ap (λ b. b && are_kept (map stored_part ps) ps) (one_kept agree p traced.0) ∙ stored_kept agree ps traced.1
 
--- ---- those that a walk tells as the same are kept
+-- ---- those that a walk finds to be the same are cached
 
 same_by : (k d : DonePart) (p : Part) (kept : Store) (b : Bool) → bytes_eq k.path p.path ≡ b
     → kept k.path ≡ Some (wide_trace k.trace)
@@ -94,7 +94,7 @@ are_same_is kept (k ∷ ks) (d ∷ ds) (p ∷ ps) at are flags =
     (one_same kept k d p at.0 (ap (λ (s : Stored). s.path) parts.0) marks.0)
     ∙ ap (λ b. is_kept (kept_part k) p && b) (are_same_is kept ks ds ps at.1 parts.1 marks.1)
 
--- ---- those that are kept are the parts, with their traces
+-- ---- those that are cached are the parts, with their traces
 
 stored_as : List ℕ → Option WideTrace → Stored
 stored_as path trace = record { path = path; trace = trace }
@@ -174,7 +174,7 @@ reached_is sheller m b ds ks es used stays sound is bare are flags own now h =
     ap not (h ∙ ap (λ xs. used && are_same_parts xs es) own ∙ ap (λ xs. used && are_same_parts b.parts xs) now
     ∙ stays_by sheller m b ds used sound is bare are flags)
 
--- what is kept of it, and of its parts, is as before where it stays
+-- what is cached of it, and of its parts, is as before where it isn't reached
 module _ (over : AllOver) (stand : AllStandIn) (traced : AllTraced) (sheller : Sheller) (shells : IsSheller sheller)
     (m : Moment) (b : Bridge) (sound : IsSoundBridge b) (flag : Bool)
     (is : flag ≡ not (unit_stays_by sheller m (kept_unit b) (kept_parts b.parts))) (down : flag ≡ false) where

@@ -32,7 +32,7 @@ got f i [] bs j v o = o
 got f i (q ∷ qs) [] j v o = o
 got f i (q ∷ qs) (b ∷ bs) j v o = got f (i + 1) qs bs j v (if stays q i b.unit j v then f i b else o)
 
--- so of each new unit; g says what it has before
+-- what each new unit has then; g says what it has before
 abbrev pub all_got : {A : Type 0} → (ℕ → Bridge → A) → (Bridge → A) → ℕ → List (Option (List ℕ)) → List Bridge → ℕ
     → List Bridge → List A
 all_got f g i qs bs j [] = []
@@ -161,9 +161,9 @@ got_source qs bs j v same = by v.path refl
     by (Some p) e = got_path 0 qs bs j v p None same e
     by None e = got_number j 0 qs bs j v e same (omega arith)
 
--- ---- new units of which nothing is kept but parts
+-- ---- new units of which nothing is cached but parts
 
--- these are the units, of each of which no trace is kept, and which was none before
+-- these are the units, of each of which no trace is cached, and which was none before
 abbrev pub AreBare : List DocUnit → List Bridge → Type 0
 AreBare [] [] = Unit {0}
 AreBare [] (w ∷ ws) = ⊥
@@ -203,7 +203,7 @@ traces_in bs = map trace_in bs
 
 -- `find` says what the old unit of a number gives, and what a new one has without one
 module _ {A : Type 0} (g : Bridge → A) (find : Option ℕ → A) where
-  -- so it is of the old ones from number i on
+  -- `find` says what each of these gives, from number i on
   abbrev pub AreFrom : ℕ → List Bridge → Type 0
   AreFrom i bs = (n k : ℕ) (b : Bridge) → n ≡ i + k → slice_get bs k ≡ Some b → find (Some n) ≡ g b
 
@@ -274,7 +274,7 @@ no_traces [] (w ∷ ws) h = absurd h
 no_traces (u ∷ us) [] h = absurd h
 no_traces (u ∷ us) (w ∷ ws) h = (h.0.1, no_traces us ws h.1)
 
--- ---- where the old ones stand
+-- ---- where the old ones are
 
 pub places_same : (ms : List Mod) (t : WideTree) (bs : List Bridge)
     → map (through ms t) (paths_in bs) ≡ unit_places_after ms t (bodies_of bs)

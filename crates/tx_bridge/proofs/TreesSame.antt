@@ -1,4 +1,4 @@
--- Through an edit a unit that stays keeps its tree.
+-- Through an edit a unit that is carried keeps its tree.
 use Rattle.std.proofs.Common.{◌≡◌, ℕ, zero, suc, List, [], ◌∷◌, Some, refl, ap, sym, ◌∙◌, subst, arith}
 use Rattle.std.proofs.Common.{◌⊎◌, inl, inr}
 use Rattle.std.proofs.lemmas.Option.{slice_get-map}
@@ -34,7 +34,7 @@ all_at P (y ∷ xs) (suc k) x h e = all_at P xs k x h.1 e
 abbrev EachPlaced : List DocUnit → Type 0
 EachPlaced us = (k : ℕ) (u : DocUnit) → slice_get us k ≡ Some u → HasPathIfBody u
 
--- where an old unit stands at the path of a new one, they have one tree
+-- where an old unit is at the path of a new one, they have one tree
 abbrev EachSameAt : List Mod → WideTree → List DocUnit → List DocUnit → Type 0
 EachSameAt ms t us vs = (i j : ℕ) (u v : DocUnit) → slice_get us i ≡ Some u → slice_get vs j ≡ Some v
     → SameAt (through ms t u.path) u v

@@ -1,4 +1,4 @@
--- What is kept is used again.
+-- What is cached is used again.
 use Rattle.std.proofs.Common.{◌≡◌, ℕ, ◌≤◌, List, [], ◌∷◌, length, nat_eq, refl, ap, sym, subst, ◌∙◌, leb-true, arith}
 use Rattle.std.specs.Prelude.{Bool, true, ◌&&◌, if◌then◌else◌, nat_le, Option, Some, None}
 use Rattle.std.specs.FinMap.{get}
@@ -30,7 +30,7 @@ use Rattle.tx_walk.proofs.Trees.{both}
 use Rattle.tx_bridge.proofs.Once.{none_set}
 use Rattle.tx_walk.proofs.Agreed.{agrees_is, agrees_of, test_same}
 
--- what fits is what the tree comes to
+-- what fits is the outcome of the tree
 pub fits_is : (m : Moment) (o : Option WideTrace) (t : TaggedTree) → TraceHolds o t → can_be_used m o ≡ true
     → o ≡ outcome t m
 unfolding outcome
@@ -51,7 +51,7 @@ abbrev pub AllAllowed : Type 0
 AllAllowed = (k c : ℕ) (t : TaggedTree) (e : Before) (trace : WideTrace) → evaluated_in k c t e ≡ Some trace
     → (trace.cost ≤ c) × (trace.height ≤ k)
 
--- what a tree comes to holds of it
+-- the outcome of a tree holds of it
 pub outcome_holds : AllSupport → AllAllowed → (m : Moment) (o : Option WideTrace) (t : TaggedTree) → o ≡ outcome t m
     → TraceHolds o t
 unfolding outcome
@@ -90,7 +90,7 @@ sound_with support allowed m u o ps ls shelled flag from e once placed hold = re
   parts = hold;
 }
 
--- where what is kept fits, so do its parts
+-- where what is cached fits, its parts fit
 pub parts_fit : (m : Moment) (o : Option WideTrace) (u : DocUnit) (ks : KeptParts) → can_be_used m o ≡ true
     → o ≡ outcome_of m u → AreItsParts u ks o → ks ≡ fresh_parts m u
 parts_fit m None u ks fit is all = cc
@@ -101,7 +101,7 @@ parts_fit m (Some trace) u ks fit is all =
     (leb-true trace.cost (allowance m) tests.1))
     ∙ ap (λ o. if has_parts u then parts_if_done o (unit_parts m u) else []) is
 
--- the test of a kept trace, by the pairs of its looks
+-- the test of a cached trace, by the pairs of its looks
 pub fits_done : (m : Moment) (map : NameMap) (o : Outcome) (trace : Trace) (b : Bool) → o ≡ Done trace → NamesOnce o
     → map ≡ m.env → b ≡ list_all (λ look. same (get map look.0) look.1) trace.looks
     → b && nat_le trace.cost (allowance m) ≡ can_be_used m (wide_outcome o)
@@ -111,7 +111,7 @@ fits_done m map o trace b is once env h =
     ∙ test_same (λ look. same (get m.env look.0) look.1) trace.looks (subst NamesOnce is once).0)
     ∙ ap (λ x. can_be_used m (wide_outcome x)) (sym is)
 
--- where the looks are known to agree, so do their pairs
+-- where the looks are known to agree, their pairs agree
 pub pairs_agree : (m : Moment) (map : NameMap) (o : Outcome) (trace : Trace) → o ≡ Done trace → NamesOnce o
     → map ≡ m.env → AgreesWith m.env (wide_outcome o)
     → list_all (λ look. same (get map look.0) look.1) trace.looks ≡ true
@@ -120,7 +120,7 @@ pairs_agree m map o trace is once env h =
     ∙ test_same (λ look. same (get m.env look.0) look.1) trace.looks (subst NamesOnce is once).0
     ∙ subst (λ (x : Outcome). AgreesWith m.env (wide_outcome x)) is h
 
--- ---- what comes from nothing settles in itself
+-- ---- what evaluation from nothing gives agrees with itself
 
 abbrev pub AllAgree : Type 0
 AllAgree = (k c : ℕ) (t : TaggedTree) (e : Before) (trace : WideTrace) → evaluated_in k c t e ≡ Some trace
@@ -152,7 +152,7 @@ silent_done o trace is none =
 pub none_there : (n : ℕ) → nat_eq n 0 ≡ true → n ≡ 0
 none_there n e = grind arith
 
--- what names have behind a unit whose kept trace is used, and behind one that is evaluated anew and sets none
+-- what names have after a unit whose cached trace is used, and after one that is evaluated anew and sets none
 pub env_used : (m after : Moment) (kept o : Option WideTrace) → kept ≡ o → after ≡ behind m o
     → after.env ≡ env_behind m.env kept
 env_used m after kept o e is = ap (λ (k : Moment). k.env) is ∙ ap (env_behind m.env) (sym e)

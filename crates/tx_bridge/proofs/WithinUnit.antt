@@ -27,7 +27,7 @@ use Rattle.tx_bridge.specs.PartsKept.{KeptParts, part_paths}
 use Rattle.tx_bridge.proofs.Inside.{rest_is, rest_own, no_rest, begins_is}
 use Rattle.tx_bridge.proofs.Injective.{carried_once}
 
--- ---- what is kept holds in a tree
+-- ---- what is cached holds in a tree
 
 abbrev pub SupportsIfDone : WideTree → Option WideTrace → Type 0
 SupportsIfDone t None = Unit {0}
@@ -64,7 +64,7 @@ clash e = cc
 abbrev pub at_path : Stored → List ℕ → Stored
 at_path k r = record { path = r; trace = k.trace }
 
--- what holds without the part and with it where it stands holds
+-- what holds without the part, and with it at its place, holds
 pub by_place : (Q : KeptParts → Type 0) (p : List ℕ) (place : Option (List ℕ)) (k : Stored) (ks : KeptParts) → Q ks
     → ((r : List ℕ) → place ≡ Some (p ++ r) → Q (at_path k r ∷ ks)) → Q (and_part (part_at p place k) ks)
 by_place Q p None k ks none some = none
@@ -99,7 +99,7 @@ module _ (ms : List Mod) (t v : WideTree) (p : List ℕ) (old new : WideTree)
       by_place (AllByRecursion (Holds new)) p (carried_by_all ms t (p ++ k.path)) k (parts_behind ms t p ks)
       (hold_behind ks h.1) (λ r e. (holds_behind k r h.0 e, hold_behind ks h.1))
 
-  -- a part that stands at a has another path than one that stood at another one
+  -- a part that is at a has another path than one that was at another one
   differ : (a r b s : List ℕ) (x y : WideTree) → bytes_eq a b ≡ false → subtree old a ≡ Some x → subtree old b ≡ Some y
       → carried_by_all ms t (p ++ a) ≡ Some (p ++ r) → carried_by_all ms t (p ++ b) ≡ Some (p ++ s)
       → (o : Bool) → bytes_eq r s ≡ o → o ≡ false
@@ -135,7 +135,7 @@ module _ (ms : List Mod) (t v : WideTree) (p : List ℕ) (old new : WideTree)
       (λ r e. IsDistinct-cons bytes_eq r (part_paths (parts_behind ms t p ks))
       (all_differ k.path r h.0.there ks h.0.leads e (IsDistinct-head bytes_eq k.path (part_paths ks) d) h.1) rest)
 
--- the parts that stay in the unit at p hold in its tree afterwards, and no two stand at one path
+-- the parts that are still in the unit at p hold in its tree afterwards, and no two are at one path
 pub parts_hold_behind : (ms : List Mod) (t v : WideTree) (p : List ℕ) (old new : WideTree) (ps qs : List DonePart)
     → ((q : List ℕ) → CarriesThroughAll ms t q) → ((m : Mod) (s : WideTree) (q : List ℕ) → CarriesSubtree m s q)
     → changed_by_all ms t ≡ Some v → subtree t p ≡ Some old → subtree v p ≡ Some new
@@ -154,7 +154,7 @@ parts_hold_behind ms t v p old new ps qs through_all law made before after h d i
     held : AllByRecursion (Holds old) (kept_parts ps)
     held = hold_kept old ps h
 
--- ---- what stands behind a front
+-- ---- what is left after a front
 
 pub no_rest_of : (q p : List ℕ) → starts_with nat_eq p q ≡ false → rest_behind q p ≡ None
 no_rest_of q p e =

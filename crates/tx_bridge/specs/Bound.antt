@@ -1,4 +1,4 @@
--- What a refresh is charged at most, told by the paragraphs that are touched and the parts that aren't held.
+-- The most that a refresh is charged, by the paragraphs that are touched and the parts that aren't held.
 use Rattle.std.specs.Prelude.{ℕ, ◌+◌, Bool, not, ◌||◌, if◌then◌else◌, List, [], ◌∷◌, drop, Option, Some, None}
 use Rattle.std.specs.List.{list_all}
 use Rattle.tx_exec_form.specs.Evaluated.{WideTrace}
@@ -18,7 +18,7 @@ use Rattle.tx_bridge.specs.Charges.{layers_charge, first_layers}
 abbrev pub is_unused : Moment → Entry → UnitSpare → Bool
 is_unused m e s = not (can_be_used m e.trace || can_be_used m s.trace)
 
--- each part of the unit is held, by what is kept of it or by the spare
+-- each part of the unit is held, by what is cached of it or by the spare
 abbrev pub are_parts_held : Sheller → Moment → DocUnit → KeptParts → UnitSpare → Bool
 are_parts_held sheller m u ps s = list_all (is_part_held (stores_with ps s.parts)) (unit_parts_by sheller m u)
 
@@ -35,10 +35,10 @@ touched_bound sheller m u ps s =
 abbrev pub layers_left : Sheller → Moment → DocUnit → List TreeTrace → UnitSpare → ℕ
 layers_left sheller m u ls s = layers_charge (holds_either ls s.layers) sheller m u
 
--- Where the unit comes to this: all that it may take, where it is over. Else a paragraph that is touched counts with
--- its parts that aren't held and all its layers, and one that isn't with what is left of its layers. That is nothing
--- where the trace that can be used came with the layers that are held (`staying_law`, `spare_law`). Another unit counts
--- with its cost, where nothing of it can be used.
+-- The bound of a unit with this outcome. Where it runs out of steps or levels, it is all that the unit may take. A
+-- paragraph that is touched counts with its parts that aren't held and all its layers. One that isn't touched counts
+-- with what is left of its layers. That is nothing where the trace that can be used came with the layers that are held
+-- (`staying_law`, `spare_law`). Another unit counts with its cost, where nothing of it can be used.
 abbrev pub bound_at : Sheller → Moment → Entry → KeptParts → List TreeTrace → UnitSpare → Option WideTrace → ℕ
 bound_at sheller m e ps ls s None = allowance m
 bound_at sheller m e ps ls s (Some trace) =
@@ -49,7 +49,7 @@ bound_at sheller m e ps ls s (Some trace) =
 abbrev pub unit_bound : Sheller → Moment → Entry → KeptParts → List TreeTrace → UnitSpare → ℕ
 unit_bound sheller m e ps ls s = bound_at sheller m e ps ls s (outcome_of m e.unit)
 
--- the bounds of all units, the first at this moment and each other one behind those before it
+-- the bounds of all units, the first at this moment and each other one after those before it
 abbrev pub bounds_by : Sheller → Moment → Kept → List KeptParts → List (List TreeTrace) → Spares → ℕ
 bounds_by sheller m [] pss lss ss = 0
 bounds_by sheller m (e ∷ es) [] lss ss = 0

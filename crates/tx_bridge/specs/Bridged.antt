@@ -1,4 +1,4 @@
--- All units with what is kept of them, as contracts see them.
+-- All units with what is cached of them, as contracts see them.
 use Rattle.std.specs.Prelude.{ℕ, Bool, List, Option, refl}
 use Rattle.std.specs.Coded.{Coded, code_by, coded×, coded_list, coded_option, coded_bool, coded_ℕ}
 use Rattle.tx_tree.specs.WideTree.{WideTree, coded_WideTree}
@@ -12,10 +12,10 @@ use Rattle.tx_bridge.specs.Entries.{Entry, Kept}
 use Rattle.tx_bridge.specs.PartsKept.{KeptParts}
 use Rattle.tx_bridge.specs.Strays.{Stray}
 
--- What is kept of the units, of their parts and of the trees of their layers, and of strays, and which unit each was
--- before the last edit. Of each unit there is a flag, which says behind a refresh whether it was reached when that
--- began, whatever is spare, and one of each part. What flags are behind an edit no clause says. Beside these stands
--- what names had behind the last unit at the last refresh, which an edit leaves.
+-- What is cached of the units, of their parts and of the trees of their layers, and of strays, and which unit each was
+-- before the last edit. There is a flag for each unit and one for each part. After a refresh the flag of a unit says
+-- whether it was reached when that began, whatever is spare. No clause says what flags are after an edit. There is also
+-- what names had after the last unit at the last refresh. An edit leaves that unchanged.
 pub record Bridged : Type 0 where
   pub kept : Kept
   pub parts : List KeptParts

@@ -1,4 +1,4 @@
--- What is kept stays with its unit through an edit.
+-- What is cached is carried with its unit through an edit.
 use Rattle.std.specs.Prelude.{◌≡◌, ℕ, zero, suc, ◌+◌, Bool, true, false, ◌&&◌, ◌==◌, if◌then◌else◌, List, [], ◌∷◌, map}
 use Rattle.std.specs.Prelude.{Option, Some, None, is_some, option_and_then, slice_get}
 use Rattle.std.specs.Option.{option_map_or}
@@ -18,11 +18,11 @@ use Rattle.tx_bridge.specs.Entries.{Kept, units_of, traces_of}
 
 -- ---- paths
 
--- where the subtree at the path, if there is one, stands after the modifications
+-- where the subtree at the path, if there is one, is after the modifications
 abbrev pub through : List Mod → WideTree → Option (List ℕ) → Option (List ℕ)
 through ms t path = option_and_then (carried_by_all ms t) path
 
--- where each unit stands after the modifications: a unit without a path, or whose tree doesn't stay, nowhere
+-- where each unit is after the modifications; nowhere for a unit without a path, or whose tree isn't carried
 abbrev pub unit_places_after : List Mod → WideTree → List DocUnit → List (Option (List ℕ))
 unit_places_after ms t us = map (λ u. through ms t u.path) us
 
@@ -54,12 +54,12 @@ same_number us j v = option_and_then (λ u. if same_unit u v then Some j else No
 
 -- ---- all units
 
--- The number of the old unit that the new unit v of number j is, where `places` says where each old one stands: the
--- one that stands at its path, or the one of its number.
+-- The number of the old unit that the new unit v of number j is. `places` says where each old one is now. It is the one
+-- at the path of v, or, where v has no path, the one of its number.
 abbrev pub source : List (Option (List ℕ)) → List DocUnit → ℕ → DocUnit → Option ℕ
 source places us j v = option_map_or (λ p. number_at p 0 places None) v.path (same_number us j v)
 
--- so of each new unit, from number j on
+-- the numbers of the old units that these new units are, from number j on
 abbrev pub sources_from : List (Option (List ℕ)) → List DocUnit → ℕ → List DocUnit → List (Option ℕ)
 sources_from places us j [] = []
 sources_from places us j (v ∷ vs) = source places us j v ∷ sources_from places us (j + 1) vs
@@ -67,7 +67,7 @@ sources_from places us j (v ∷ vs) = source places us j v ∷ sources_from plac
 abbrev pub sources : List Mod → WideTree → List DocUnit → List DocUnit → List (Option ℕ)
 sources ms t us vs = sources_from (unit_places_after ms t us) us 0 vs
 
--- what was kept of the layers of the old unit of this number, and nothing where there is none
+-- what was cached of the layers of the old unit of this number, and nothing where there is none
 abbrev pub layers_now : List (List TreeTrace) → Option ℕ → List TreeTrace
 layers_now lss s = option_map_or (λ i. option_map_or (λ ls. ls) (slice_get lss i) []) s []
 
@@ -75,7 +75,7 @@ layers_now lss s = option_map_or (λ i. option_map_or (λ ls. ls) (slice_get lss
 abbrev pub had : {A : Type 0} → List (Option A) → Option ℕ → Option A
 had xs s = option_and_then (λ i. option_and_then (λ x. x) (slice_get xs i)) s
 
--- each new unit with what was kept of the old one that it is
+-- each new unit with what was cached of the old one that it is
 abbrev pub taken_from : List (Option WideTrace) → List (Option ℕ) → List DocUnit → Kept
 taken_from traces [] vs = []
 taken_from traces (s ∷ ss) [] = []

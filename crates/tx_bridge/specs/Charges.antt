@@ -25,12 +25,12 @@ abbrev pub layers_charge : Holder → Sheller → Moment → DocUnit → ℕ
 layers_charge held sheller m u =
     if has_parts u then layer_costs_by held sheller MOST_LEVELS (allowance m) u.tagged.tree (get m.env) else 0
 
--- what a walk goes by
+-- what guides a walk
 abbrev pub guide_with : Sheller → Stores → Holder → Guide
 guide_with sheller stores held = record { stores = stores; sheller = sheller; holder = held }
 
--- What a unit with parts is charged: the costs of its parts that neither what is kept holds nor the spare, and those of
--- layers, of which the trees cost nothing that these hold.
+-- The charge of a unit with parts: the costs of its parts that neither the cache nor the spare holds, and those of
+-- layers, where a tree that these hold costs nothing.
 abbrev pub parts_charge_by : Sheller → Moment → DocUnit → KeptParts → KeptParts → List TreeTrace → List TreeTrace → ℕ
 parts_charge_by sheller m u ps spare ls spare_ls =
     charged (guide_with sheller (stores_with ps spare) (holds_either ls spare_ls)) MOST_LEVELS (allowance m) []
@@ -44,20 +44,20 @@ abbrev pub unit_charge_by : Sheller → Moment → DocUnit → KeptParts → Lis
 unit_charge_by sheller m u ps ls s =
     if has_parts u then parts_charge_by sheller m u ps s.parts ls s.layers else whole_charge m u s
 
--- A unit without parts isn't evaluated where what is kept of it can be used. One with parts is charged by these alone:
--- nothing, where all are held and no layer is evaluated.
+-- A unit without parts isn't evaluated where what is cached of it can be used. One with parts is charged by its parts
+-- and layers alone: nothing, where all are held and no layer is evaluated.
 abbrev pub is_charged : Moment → Entry → Bool
 is_charged m e = has_parts e.unit || not (can_be_used m e.trace)
 
 abbrev pub charge_by : Sheller → Moment → Entry → KeptParts → List TreeTrace → UnitSpare → ℕ
 charge_by sheller m e ps ls s = if is_charged m e then unit_charge_by sheller m e.unit ps ls s else 0
 
--- what is kept of the layers of the first unit, and nothing past the end of the list
+-- what is cached of the layers of the first unit, and nothing past the end of the list
 abbrev pub first_layers : List (List TreeTrace) → List TreeTrace
 first_layers [] = []
 first_layers (ls ∷ lss) = ls
 
--- the charges of all units, the first at this moment and each other one behind those before it
+-- the charges of all units, the first at this moment and each other one after those before it
 abbrev pub charges_by : Sheller → Moment → Kept → List KeptParts → List (List TreeTrace) → Spares → ℕ
 charges_by sheller m [] pss lss ss = 0
 charges_by sheller m (e ∷ es) [] lss ss = 0
@@ -67,16 +67,16 @@ charges_by sheller m (e ∷ es) (ps ∷ pss) lss ss =
 
 -- ---- what is known of layers
 
--- each trace is its tree's wherever its looks have the same
+-- each trace is its tree's wherever its looks have the same values
 abbrev pub AreLayersSound : List TreeTrace → Type 0
 AreLayersSound ls = AllByRecursion (λ l. Supports l.trace (bare l.tree)) ls
 
--- a walk of the unit at this moment, for which these are kept, evaluates no tree of a layer
+-- a walk of the unit at this moment, for which these are cached, evaluates no tree of a layer
 abbrev pub UnitLayersKnown : Sheller → Moment → DocUnit → List TreeTrace → Type 0
 UnitLayersKnown sheller m u ls = (trace : WideTrace) → outcome_of m u ≡ Some trace
     → layers_charge (holds_in ls) sheller m u ≡ 0
 
--- so of each unit, the first at this moment and each other one behind those before it
+-- no walk of a unit evaluates a tree of a layer, the first at this moment and each other one after those before it
 abbrev pub AllLayersKnown : Sheller → Moment → List DocUnit → List (List TreeTrace) → Type 0
 AllLayersKnown sheller m [] lss = Unit {0}
 AllLayersKnown sheller m (u ∷ us) lss =

@@ -1,4 +1,4 @@
--- How units and their parts go through an edit. Private clauses cite these.
+-- How units and their parts are carried through an edit. Private clauses cite these.
 use Rattle.std.specs.Prelude.{◌≡◌, ℕ, zero, suc, ◌+◌, true, ◌==◌, is_some, if◌then◌else◌, List, [], ◌∷◌, ◌++◌, map}
 use Rattle.std.specs.Prelude.{Option, Some, None, slice_get, ◌<◌, ◌^◌, length}
 use Rattle.std.specs.Option.{option_map_or}
@@ -42,27 +42,26 @@ pub record IsUnitAbove (place : List ℕ) (us : List DocUnit) (j : ℕ) : Type 0
   pub there : slice_get us j ≡ Some unit
   pub within : is_some (rest_in unit place) ≡ true
 
--- The path of a unit, if it has one, has so many numbers, and the last one is how far the unit stands behind number
--- `first`.
+-- The path of a unit, if it has one, has so many numbers, and the last one is how far the unit is after number `first`.
 pub record AreAligned (first depth : ℕ) (us : List DocUnit) : Type 0 where
   pub small : first < 2 ^ 63
   pub order : (k : ℕ) (u : DocUnit) → slice_get us k ≡ Some u → IsInOrder first k u
   pub depths : (k : ℕ) (u : DocUnit) (p : List ℕ) → slice_get us k ≡ Some u → u.path ≡ Some p → length p ≡ depth
 
--- ---- what stands where a part stands now
+-- ---- the tree at a part's place
 
--- the document may be this one behind the edit of a buffer, by which the buffer's tree t changes
+-- the document may be this one after the edit of a buffer, which changes the buffer's tree t
 abbrev pub MayFollow : ℕ → List Mod → WideTree → List Stray → WideTree → Type 0
 MayFollow zero ms t strays = λ u. changed_by_all ms t ≡ Some u
 MayFollow (suc buffer) ms t strays = λ u. StandAside u strays
 
--- The part's trace supports the tree, and where the part stands in none of n units, the tree stands at its path in each
--- document that may be the one behind the edit.
+-- The part's trace supports the tree. Where the part is in none of n units, the tree is at its path in each document
+-- that may be the one after the edit.
 pub record HasTree (IsAfter : WideTree → Type 0) (n : ℕ) (m : PartMove) : Type 0 where
   pub supports : Supports (wide_trace m.part.trace) (alone m.tree)
   pub stands : m.to ≡ n → (u : WideTree) → IsAfter u → subtree u m.part.path ≡ Some m.tree
 
--- the parts that stand in none of n units
+-- the parts that are in none of n units
 abbrev pub stray_left : ℕ → PartMove → Option DoneStray
 stray_left n m = if m.to == n then Some (record { tree = m.tree; part = m.part }) else None
 
@@ -94,7 +93,7 @@ abbrev pub with_arrived : List PartMove → ℕ → List Bridge → List Bridge
 with_arrived ms j [] = []
 with_arrived ms j (b ∷ bs) = joined_by (arrived_parts ms j) b ∷ with_arrived ms (j + 1) bs
 
--- the new units, to which these parts have moved, where all old ones have given what is kept of them
+-- the new units, to which these parts have moved, after all old ones have given what is cached of them
 abbrev pub given_with : List PartMove → List Mod → WideTree → List Bridge → List DocUnit → List Bridge
 given_with moves ms t old us =
     given_all 0 (map (through ms t) (paths_in old)) old (with_arrived moves 0 (map fresh_bridge us))

@@ -8,24 +8,24 @@ use Rattle.tx_mod.specs.declared.mods.Mod.TheVariants.{AssignNode, InsertNode, R
 use Rattle.tx_mod.specs.Mods.{path_of}
 use Rattle.tx_mod.specs.Moves.{rest_behind}
 
--- The tables below say whether what stands at r is found to stay there. It is seen from the path of the modification.
+-- The tables below say whether the place r is found to be unchanged. It is seen from the path of the modification.
 
--- it stands below
+-- it is below
 abbrev pub is_below : List ℕ → Bool
 is_below [] = false
 is_below (k ∷ u) = true
 
--- it stands in a child before child i, or is one
+-- it is in a child before child i, or is one
 abbrev pub stands_before : ℕ → List ℕ → Bool
 stands_before i [] = false
 stands_before i (k ∷ u) = nat_lt k i
 
--- of child i what stands in its children before j stays
+-- of child i, the places in its children before child j are unchanged
 abbrev pub keeps_by_split : ℕ → ℕ → List ℕ → Bool
 keeps_by_split i j [] = false
 keeps_by_split i j (k ∷ u) = nat_lt k i || k == i && stands_before j u
 
--- of child i what stands below it stays
+-- of child i, the places below it are unchanged
 abbrev pub keeps_by_join : ℕ → List ℕ → Bool
 keeps_by_join i [] = false
 keeps_by_join i (k ∷ u) = nat_lt k i || k == i && is_below u
@@ -40,12 +40,12 @@ keeps_at (AssignNode p l) r = is_below r
 keeps_at (InsertNode p i x) r = false
 keeps_at (RemoveNode p i) r = false
 
--- Whether what stands at q is found to stay there through the modification: below its path by the table, beside its
--- path always, and above it never.
+-- Whether the place q is found to be unchanged by the modification: below its path by the table, beside its path
+-- always, and above it never.
 abbrev pub keeps_place : Mod → List ℕ → Bool
 keeps_place m q =
     option_map_or (keeps_at m) (rest_behind (path_of m) q) (not (is_some (rest_behind q (path_of m))))
 
--- so it is through all of them
+-- whether the place q is found to be unchanged by all of them
 abbrev pub all_keep_place : List Mod → List ℕ → Bool
 all_keep_place ms q = list_all (λ m. keeps_place m q) ms

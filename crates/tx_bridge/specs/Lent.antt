@@ -1,4 +1,4 @@
--- What others have kept of the same units. Private clauses cite these.
+-- What the spare has cached of the same units. Private clauses cite these.
 use Rattle.std.specs.Prelude.{◌≡◌, ℕ, true, List, [], map, Option, Some, None, slice_get}
 use Rattle.tx_exec.specs.declared.outcome.Outcome.{Outcome}
 use Rattle.tx_exec.specs.Outcomes.{wide_outcome, NamesOnce}
@@ -36,7 +36,7 @@ pub record IsSpareOf (u : DocUnit) (b : Bridge) : Type 0 where
   pub unit : b.unit ≡ u
   pub sound : IsSoundBridge b
 
--- the outcome is what the unit comes to at the moment, where that is told by what is spare of it
+-- what is spare of the unit can be used at the moment, and the outcome is the unit's
 pub record IsUsable (m : Moment) (u : DocUnit) (spare : Option Bridge) (o : Outcome) : Type 0 where
   pub fitting : can_be_used m (spare_of spare).trace ≡ true
   pub comes : wide_outcome o ≡ outcome_of m u

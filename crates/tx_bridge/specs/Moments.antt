@@ -14,7 +14,7 @@ coded_Moment =
     code_by (NameMap × ℕ) (coded× coded_NameMap coded_ℕ) (λ m. (m.env, m.left))
     (λ p. record { env = p.0; left = p.1 }) (λ _. refl)
 
--- a value is what a unit that is over comes to, or has been paid for
+-- the value is that of a unit that runs out of steps or levels, or it has been paid for
 pub record IsPaid (before after : Moment) (v : WideValue) : Type 0 where
   pub small : size_of (plain v) ≤ 1000000
   pub paid : (v ≡ over_value) ⊎ (size_of (plain v) + after.left ≤ before.left)

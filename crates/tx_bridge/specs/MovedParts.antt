@@ -1,4 +1,4 @@
--- The parts of a unit that changes which aren't found to stay where they are, as they stand in it afterwards.
+-- The parts of a unit that changes which aren't found to keep their places, as they are in it afterwards.
 use Rattle.std.specs.Prelude.{◌≡◌, ℕ, ◌+◌, ◌==◌, if◌then◌else◌, List, [], ◌∷◌, map, Option, Some}
 use Rattle.std.specs.Prelude.{option_map, IfSome}
 use Rattle.std.specs.List.{All}
@@ -11,19 +11,19 @@ use Rattle.tx_bridge.specs.CarryingParts.{carried_below, parts_within}
 use Rattle.tx_bridge.specs.PartsKept.{KeptParts, part_paths}
 use Rattle.tx_bridge.specs.Others.{stored_of, put_from}
 
--- where they stand afterwards, by their numbers; one that doesn't stay in the unit stands nowhere
+-- where they are afterwards, by their numbers; nowhere for one that isn't in the unit any more
 abbrev pub moves_of : List (ℕ × Option DonePart) → List (ℕ × Option (List ℕ))
 moves_of os = map (λ o. (o.0, option_map (λ d. d.path) o.1)) os
 
--- Where parts with these paths, whose numbers begin with i, stand afterwards: those of these numbers as it is told, and
--- each other one where it stood. The numbers are in order.
+-- Where parts with these paths, whose numbers begin with i, are afterwards: those of these numbers as the list says,
+-- and each other one where it was. The numbers are in order.
 abbrev pub places_by : ℕ → List (ℕ × Option (List ℕ)) → List (List ℕ) → List (Option (List ℕ))
 places_by i ms [] = []
 places_by i [] (q ∷ qs) = Some q ∷ places_by (i + 1) [] qs
 places_by i (m ∷ ms) (q ∷ qs) =
     if m.0 == i then m.1 ∷ places_by (i + 1) ms qs else Some q ∷ places_by (i + 1) (m ∷ ms) qs
 
--- These are the parts of the unit that aren't found to stay, where this is kept of its parts.
+-- These are the parts of the unit that aren't found to keep their places, where this is cached of its parts.
 pub record AreMovedParts (ms : List Mod) (t : WideTree) (u : DocUnit) (ks : KeptParts) (os : List (ℕ × Option DonePart))
     : Type 0 where
   pub kept : put_from 0 (stored_of os) ks ≡ parts_within ms t u ks

@@ -23,7 +23,7 @@ use Rattle.tx_bridge.specs.Courses.{MayFollow, HasTree}
 use Rattle.tx_bridge.specs.PartMoves.{Move, AreMoves, arrived, part_moves, all_parts_now}
 use Rattle.tx_bridge.specs.Strays.{Stray, kept_strays, strays_beside}
 
--- nothing is kept of these units
+-- nothing is cached of these units
 unfoldable pub EmptyTraces : List DocUnit → Kept
 EmptyTraces us = nothing_kept us
 
@@ -39,11 +39,11 @@ FreshTraces kept = fresh_from beginning (units_of kept)
 unfoldable pub FreshParts : Kept → List KeptParts
 FreshParts kept = fresh_parts_from beginning (units_of kept)
 
--- of each part of the units whether nothing that fits is kept at its path
+-- for each part of the units, whether nothing that fits is cached at its path
 unfoldable pub PartFlags : Kept → List KeptParts → List (List Bool)
 PartFlags kept parts = part_flags_from beginning kept parts
 
--- what names have behind these units
+-- what names have after these units
 unfoldable pub End : Kept → NameMap
 End kept = (behind_all beginning (units_of kept)).env
 
@@ -77,50 +77,50 @@ FreshPartsBy start sheller kept = fresh_parts_by_from sheller (beginning_with st
 unfoldable pub PartFlagsBy : List (Name × WideTree) → Sheller → Kept → List KeptParts → List (List Bool)
 PartFlagsBy start sheller kept parts = part_flags_by_from sheller (beginning_with start) kept parts
 
--- the charges, with those of layers, where this is kept of their trees
+-- the charges, with those of layers, where this is cached of their trees
 unfoldable pub ChargeBy : List (Name × WideTree) → Sheller → Kept → List KeptParts → List (List TreeTrace) → Spares
     → ℕ
 ChargeBy start sheller kept parts layers spares = charges_by sheller (beginning_with start) kept parts layers spares
 
--- what is charged at most, told by the paragraphs that are touched and the parts that aren't held
+-- the most that is charged, by the paragraphs that are touched and the parts that aren't held
 unfoldable pub BoundBy : List (Name × WideTree) → Sheller → Kept → List KeptParts → List (List TreeTrace) → Spares → ℕ
 BoundBy start sheller kept parts layers spares = bounds_by sheller (beginning_with start) kept parts layers spares
 
--- By what is kept of the layers of units, none of their trees is to be evaluated, but in a unit that is over.
+-- By what is cached of the layers of units, none of their trees is to be evaluated, but in a unit that runs out.
 unfoldable pub KnowsLayers : List (Name × WideTree) → Sheller → Kept → List (List TreeTrace) → Type 0
 KnowsLayers start sheller kept layers = AllLayersKnown sheller (beginning_with start) (units_of kept) layers
 
 -- ---- through an edit
 
--- what stays of what is kept through the modifications of a buffer, by which its tree t changes
+-- the cached traces that are carried through the modifications of a buffer, which change its tree t
 unfoldable pub CarryTraces : ℕ → List Mod → WideTree → Kept → List DocUnit → Kept
 CarryTraces buffer ms t kept us = carried (mods_of buffer ms) t kept us
 
--- The parts of old units that are none of the new ones, and the strays, with the new units in which they stand behind
--- the modifications of a buffer, by which its tree t changes. The old units are us, this is kept of their parts and of
--- the strays, and the new units are vs. Strays count as parts of the unit behind the last one, before the edit and
--- behind it.
+-- The parts of old units that are none of the new ones, and the strays, with the new units in which they are after the
+-- modifications of a buffer, which change its tree t. The old units are us, this is cached of their parts and of the
+-- strays, and the new units are vs. Strays count as parts of the unit after the last one, both before the edit and
+-- after it.
 unfoldable pub PartMoves : ℕ → List Mod → WideTree → List DocUnit → List KeptParts → KeptParts → List DocUnit
     → List Move
 PartMoves buffer ms t us parts strays vs = part_moves buffer ms t us parts strays vs
 
--- what is kept of strays, where there are n new units, and parts have so moved
+-- what is cached of strays, where there are n new units, and parts have so moved
 unfoldable pub CarryStrays : List Move → ℕ → KeptParts
 CarryStrays moves n = arrived moves n
 
--- what stays of what is kept of the parts of units, where the new units are these old ones, and parts have so moved
+-- what is then cached of the parts of units, where the new units are these old ones, and parts have so moved
 unfoldable pub CarryParts : List KeptParts → List Move → List (Option ℕ) → List KeptParts
 CarryParts parts moves sources = all_parts_now parts moves 0 sources
 
--- what stays of the parts where all modifications of the document are inside the unit of number i
+-- what is then cached of the parts, where all modifications of the document are inside the unit of number i
 unfoldable pub CarryWithin : ℕ → List Mod → WideTree → List DocUnit → List KeptParts → List KeptParts
 CarryWithin i ms t us parts = parts_but ms t i us parts
 
--- what stays of what is kept of the layers of units, where the new units are these old ones
+-- what is then cached of the layers of units, where the new units are these old ones
 unfoldable pub CarryLayers : List (List TreeTrace) → List (Option ℕ) → List (List TreeTrace)
 CarryLayers layers sources = map (layers_now layers) sources
 
--- the strays that stay where all modifications of the document are inside the unit of number i
+-- the strays that are left where all modifications of the document are inside the unit of number i
 unfoldable pub StraysBeside : ℕ → List DocUnit → List Stray → List Stray
 StraysBeside i us strays = strays_beside i us strays
 
@@ -128,8 +128,8 @@ StraysBeside i us strays = strays_beside i us strays
 unfoldable pub Sources : ℕ → List Mod → WideTree → List DocUnit → List DocUnit → List (Option ℕ)
 Sources buffer ms t us vs = sources (mods_of buffer ms) t us vs
 
--- Where the old units us stand afterwards, of whose parts this is kept, as it is of strays, and which of these have
--- moved to the new ones vs, or stand in none of them.
+-- Where the old units us are afterwards, and which of their parts, and of the strays, have moved to the new units vs,
+-- or are in none of them. This is cached of the parts and of the strays.
 pub record IsCourse (buffer : ℕ) (ms : List Mod) (t : WideTree) (us : List DocUnit) (parts : List KeptParts)
     (strays : List Stray) (vs : List DocUnit) (c : Course) : Type 0 where
   pub places : c.places.items ≡ unit_places_after (mods_of buffer ms) t us

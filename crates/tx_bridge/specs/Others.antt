@@ -12,21 +12,21 @@ use Rattle.tx_bridge.specs.Keeping.{all_keep_place}
 
 -- ---- which ones they are
 
--- the numbers, from i on, of the parts of the unit at p that aren't found to stay
+-- the numbers, from i on, of the parts of the unit at p that aren't found to keep their places
 abbrev pub others_from : List Mod → List ℕ → ℕ → List DonePart → List ℕ
 others_from ms p i [] = []
 others_from ms p i (q ∷ qs) =
     if all_keep_place ms (p ++ q.path) then others_from ms p (i + 1) qs else i ∷ others_from ms p (i + 1) qs
 
--- where the part of this number stands in the document, if there is one
+-- the path in the document of the part of this number, if there is one
 abbrev pub path_of_part : List ℕ → List DonePart → ℕ → Option (List ℕ)
 path_of_part p ps n = option_map (λ q. p ++ q.path) (slice_get ps n)
 
--- what is kept of the part of this number, if there is one, which is at this place in the document afterwards
+-- what is cached of the part of this number, if there is one, which is at this place in the document afterwards
 abbrev pub kept_there : List ℕ → List DonePart → ℕ → Option (List ℕ) → Option Stored
 kept_there p ps n place = option_and_then (λ q. part_at p place (kept_part q)) (slice_get ps n)
 
--- so it is of each of these numbers
+-- what is cached of the part of each of these numbers
 abbrev pub kept_others : List ℕ → List DonePart → List ℕ → List (Option (List ℕ)) → List (ℕ × Option Stored)
 kept_others p ps [] places = []
 kept_others p ps (n ∷ ns) [] = []
@@ -41,13 +41,13 @@ abbrev pub and_some : {A : Type 0} → Option A → List A → List A
 and_some None xs = xs
 and_some (Some x) xs = x ∷ xs
 
--- The list, whose numbers begin with i, where those of these numbers are others, or go. The numbers are in order.
+-- The list, whose numbers begin with i, where those of these numbers are replaced or dropped. The numbers are in order.
 abbrev pub put_from : {A : Type 0} → ℕ → List (ℕ × Option A) → List A → List A
 put_from i [] xs = xs
 put_from i (o ∷ os) [] = []
 put_from i (o ∷ os) (x ∷ xs) =
     if o.0 == i then and_some o.1 (put_from (i + 1) os xs) else x ∷ put_from (i + 1) (o ∷ os) xs
 
--- what is kept of the parts of the entry of number i, and none past the last one
+-- what is cached of the parts of the entry of number i, and none past the last one
 abbrev pub done_parts_of : ℕ → List Bridge → List DonePart
 done_parts_of i bs = option_map_or (λ b. b.parts) (slice_get bs i) []

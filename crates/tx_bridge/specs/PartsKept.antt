@@ -1,4 +1,4 @@
--- What is kept of the parts of units.
+-- What is cached of the parts of units.
 use Rattle.std.specs.Prelude.{ℕ, Bool, not, is_some, if◌then◌else◌, List, [], ◌∷◌, map}
 use Rattle.std.specs.Prelude.{◌≡◌, false, Option, Some, None, slice_get}
 use Rattle.std.specs.FinMap.{get}
@@ -12,7 +12,7 @@ use Rattle.tx_units.specs.declared.kinds.Unit.{Unit as DocUnit}
 use Rattle.tx_view_form.specs.Outcomes.{Moment, allowance, behind}
 use Rattle.tx_bridge.specs.Entries.{Kept, outcome_of}
 
--- ---- what is kept of the parts of a unit
+-- ---- what is cached of the parts of a unit
 
 abbrev pub KeptParts : Type 0
 KeptParts = List Stored
@@ -20,7 +20,7 @@ KeptParts = List Stored
 abbrev pub part_paths : KeptParts → List (List ℕ)
 part_paths ks = map (λ k. k.path) ks
 
--- what is kept at a path: the first tells
+-- what is cached at a path, by the first part that has it
 abbrev pub kept_at : KeptParts → Store
 kept_at [] path = None
 kept_at (p ∷ ps) path = if bytes_eq p.path path then p.trace else kept_at ps path
@@ -41,17 +41,17 @@ unit_parts m u = unit_parts_by no_shells m u
 
 -- ---- what evaluating from nothing leaves
 
--- the parts with their traces, and none where the unit is over
+-- the parts with their traces, and none where the unit runs out of steps or levels
 abbrev pub parts_if_done : Option WideTrace → List Part → KeptParts
 parts_if_done None ps = []
 parts_if_done (Some trace) ps = map stored_part ps
 
--- what is to be kept of the parts of the unit, which is evaluated at this moment
+-- what is to be cached of the parts of the unit, which is evaluated at this moment
 abbrev pub fresh_parts_by : Sheller → Moment → DocUnit → KeptParts
 fresh_parts_by sheller m u =
     if has_parts u then parts_if_done (outcome_of m u) (unit_parts_by sheller m u) else []
 
--- of each unit, the first at this moment and each other one behind those before it
+-- what is to be cached of the parts of each unit, the first at this moment and each other one after those before it
 abbrev pub fresh_parts_by_from : Sheller → Moment → List DocUnit → List KeptParts
 fresh_parts_by_from sheller m [] = []
 fresh_parts_by_from sheller m (u ∷ us) =
@@ -66,17 +66,18 @@ fresh_parts_from m us = fresh_parts_by_from no_shells m us
 
 -- ---- which parts are evaluated anew
 
--- of each part whether nothing that fits is kept at its path, and nothing where the unit is over
+-- for each part, whether nothing that fits is cached at its path, and nothing where the unit runs out of steps or
+-- levels
 abbrev pub flags_if_done : Option WideTrace → Store → List Part → List Bool
 flags_if_done None kept ps = []
 flags_if_done (Some trace) kept ps = map (λ p. not (serves kept p)) ps
 
--- so of the parts of the unit, which is evaluated at this moment, where these are kept
+-- the flags of the parts of the unit, which is evaluated at this moment, where these are cached
 abbrev pub part_flags_by : Sheller → Moment → DocUnit → KeptParts → List Bool
 part_flags_by sheller m u ks =
     if has_parts u then flags_if_done (outcome_of m u) (kept_at ks) (unit_parts_by sheller m u) else []
 
--- of each unit, the first at this moment and each other one behind those before it
+-- the flags of the parts of each unit, the first at this moment and each other one after those before it
 abbrev pub part_flags_by_from : Sheller → Moment → Kept → List KeptParts → List (List Bool)
 part_flags_by_from sheller m [] pss = []
 part_flags_by_from sheller m (e ∷ es) [] = []
@@ -90,7 +91,7 @@ part_flags m u ks = part_flags_by no_shells m u ks
 abbrev pub part_flags_from : Moment → Kept → List KeptParts → List (List Bool)
 part_flags_from m es pss = part_flags_by_from no_shells m es pss
 
--- What is kept now of a part whose flag is false is what was kept at its path.
+-- What is cached now of a part whose flag is false is what was cached at its path.
 abbrev pub PartsStay : List KeptParts → List KeptParts → List (List Bool) → Type 0
 PartsStay olds news flags = (i k : ℕ) (old new : KeptParts) (fs : List Bool) (s : Stored) → slice_get olds i ≡ Some old
     → slice_get news i ≡ Some new → slice_get flags i ≡ Some fs → slice_get new k ≡ Some s

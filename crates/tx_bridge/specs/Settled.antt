@@ -1,4 +1,4 @@
--- What is kept settles in itself: no looks disagree with what the kept traces before them set.
+-- What is cached agrees with itself: no looks disagree with what the cached traces before them set.
 use Rattle.std.specs.Prelude.{◌≡◌, true, [], ◌∷◌, Option, Some, None}
 use Rattle.std.specs.FinMap.{get}
 use Rattle.tx_env.specs.Environments.{NameMap}
@@ -7,13 +7,13 @@ use Rattle.tx_view_form.specs.Outcomes.{env_behind}
 use Rattle.tx_bridge.specs.Entries.{Kept}
 use Rattle.tx_walk.specs.Held.{agrees}
 
--- the looks, if a trace is kept, agree with what names have
+-- the looks, if a trace is cached, agree with what names have
 abbrev pub AgreesWith : NameMap → Option WideTrace → Type 0
 AgreesWith env None = Unit {0}
 AgreesWith env (Some trace) = agrees (get env) trace.looks ≡ true
 
--- Each trace's looks agree with what names have before it, where they have this before the first unit, and a unit of
--- which nothing is kept sets none.
+-- Each trace's looks agree with what names have before it, where names have this before the first unit. A unit of which
+-- nothing is cached sets none.
 abbrev pub AreSettled : NameMap → Kept → Type 0
 AreSettled env [] = Unit {0}
 AreSettled env (e ∷ es) = AgreesWith env e.trace × AreSettled (env_behind env e.trace) es

@@ -11,11 +11,11 @@ use Rattle.tx_bridge.specs.Carrying.{is_path, same_unit, through}
 use Rattle.tx_bridge.specs.UnitLists.{HasPathIfBody}
 use Rattle.tx_bridge.specs.InPlace.{is_changed}
 
--- whether the old unit u of number i, which stands at the place now, is the new unit v of number j
+-- whether the old unit u of number i, which is at the place now, is the new unit v of number j
 abbrev pub stays : Option (List ℕ) → ℕ → DocUnit → ℕ → DocUnit → Bool
 stays place i u j v = option_map_or (λ p. is_path p place) v.path (i == j && same_unit u v)
 
--- the new units from number j on, where the old unit of number i has given what is kept of it
+-- the new units from number j on, after the old unit of number i has given what is cached of it
 abbrev pub given_from : Option (List ℕ) → ℕ → Bridge → ℕ → List Bridge → List Bridge
 given_from place i b j [] = []
 given_from place i b j (w ∷ ws) =
@@ -32,13 +32,13 @@ given_from place i b j (w ∷ ws) =
     else w)
     ∷ given_from place i b (j + 1) ws
 
--- where each old unit, from number i on, has given what is kept of it
+-- the new units after each old unit, from number i on, has given what is cached of it
 abbrev pub given_all : ℕ → List (Option (List ℕ)) → List Bridge → List Bridge → List Bridge
 given_all i [] bs new = new
 given_all i (place ∷ places) [] new = new
 given_all i (place ∷ places) (b ∷ bs) new = given_all (i + 1) places bs (given_from place i b 0 new)
 
--- the unit with nothing kept
+-- the unit with nothing cached
 abbrev pub fresh_bridge : DocUnit → Bridge
 fresh_bridge u = record {
   unit = u;
@@ -56,7 +56,7 @@ paths_in bs = map (λ b. b.unit.path) bs
 abbrev pub bodies_of : List Bridge → List DocUnit
 bodies_of bs = map (λ b. b.unit) bs
 
--- the new units, where all old ones have given what is kept of them through the modifications
+-- the new units, after all old ones have given what is cached of them through the modifications
 abbrev pub given : List Mod → WideTree → List Bridge → List DocUnit → List Bridge
 given ms t old us = given_all 0 (map (through ms t) (paths_in old)) old (map fresh_bridge us)
 
@@ -84,11 +84,11 @@ IsPathSlot p new slot = (k : ℕ) (w : Bridge) → slice_get new k ≡ Some w �
 abbrev pub last_number : List ℕ → Option ℕ
 last_number p = slice_get p (length p - 1)
 
--- the last number of the path of the unit of number k, if it has one, is how far it stands behind number `first`
+-- the last number of the path of the unit of number k, if it has one, is how far it is after number `first`
 abbrev pub IsInOrder : ℕ → ℕ → DocUnit → Type 0
 IsInOrder first k u = (p : List ℕ) → u.path ≡ Some p → (n : ℕ) × (last_number p ≡ Some n) × (k ≡ first + n)
 
--- so it is of each unit
+-- each unit is in order
 abbrev pub AreInOrder : ℕ → List Bridge → Type 0
 AreInOrder first bs = (k : ℕ) (w : Bridge) → slice_get bs k ≡ Some w → IsInOrder first k w.unit
 
@@ -101,7 +101,7 @@ abbrev pub AreMoved : List (Option (List ℕ)) → List Bridge → Type 0
 AreMoved places bs = (i : ℕ) (q : Option (List ℕ)) (b : Bridge) → slice_get places i ≡ Some q
     → slice_get bs i ≡ Some b → b.unit.path ≡ None → q ≡ None
 
--- no unit is such that all modifications are inside its tree, which they leave nowhere
+-- no unit is such that all modifications are inside its tree, and carry it nowhere
 abbrev pub AllUnchanged : List Mod → List Bridge → Type 0
 AllUnchanged ms bs = (k : ℕ) (b : Bridge) → slice_get bs k ≡ Some b → is_changed ms b.unit ≡ false
 

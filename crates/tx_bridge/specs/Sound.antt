@@ -1,4 +1,4 @@
--- What is true of what is kept.
+-- What is true of what is cached.
 use Rattle.std.specs.Prelude.{◌≡◌, ◌≤◌, ℕ, zero, suc, List, [], ◌∷◌, map, length, Bool, true, Option, Some, None}
 use Rattle.std.specs.Prelude.{◌==◌, if◌then◌else◌}
 use Rattle.std.specs.List.{All}
@@ -25,17 +25,16 @@ use Rattle.tx_bridge.specs.InPlace.{numbers_but}
 use Rattle.tx_bridge.specs.declared.strays.Stray.{Stray as DoneStray}
 use Rattle.tx_bridge.specs.Strays.{AreStrays, AreTidy, strays_in}
 
--- A trace that is kept is the tree's, with no more levels than there are, in every environment that agrees with its
--- looks.
+-- A cached trace is the tree's, with no more levels than there are, in every environment that agrees with its looks.
 abbrev pub TraceHolds : Option WideTrace → TaggedTree → Type 0
 TraceHolds None t = Unit {0}
 TraceHolds (Some trace) t = Supports trace t × (trace.height ≤ MOST_LEVELS)
 
--- what is kept of each unit supports its tree
+-- what is cached of each unit supports its tree
 abbrev pub AllHold : Kept → Type 0
 AllHold es = All (λ e. TraceHolds e.trace (tagged_of e.unit.tagged)) es
 
--- ---- the same of the program's entries
+-- ---- what contracts see of the program's entries
 
 abbrev pub kept_unit : Bridge → Entry
 kept_unit b = record { unit = b.unit; trace = wide_outcome b.kept }
@@ -63,12 +62,12 @@ abbrev pub source_by : Way → ℕ → Bridge → Option ℕ
 source_by Listed k b = b.source
 source_by (InPlace i) k b = if k == i then None else Some k
 
--- so of each
+-- which unit each one was before the last edit
 abbrev pub sources_by : Way → List Bridge → List (Option ℕ)
 sources_by Listed bs = sources_in bs
 sources_by (InPlace i) bs = numbers_but i 0 (length bs)
 
--- the entry, where its unit has this tree, of which these parts are kept alone
+-- the entry, where its unit has this tree, of which only these parts are cached
 abbrev pub changed_bridge : WideTree → List DonePart → Bridge → Bridge
 changed_bridge t ps b =
     record {
@@ -93,8 +92,8 @@ pub record IsSoundBridge (b : Bridge) : Type 0 where
   pub placed : HasPathIfBody b.unit
   pub parts : PartsHold b.shelled b.unit (wide_outcome b.kept) b.parts
 
--- Each entry is sound, the units are such as documents have, and where the flag is set, all settle in themselves.
--- Strays hold, and stand in no unit.
+-- Each entry is sound, the units are such as documents have, and where the flag is set, what is cached agrees with
+-- itself. Strays hold, and are in no unit.
 pub record AreRight (flag : Bool) (bs : List Bridge) (ss : List DoneStray) : Type 0 where
   pub sound : All IsSoundBridge bs
   pub units : AreUnits (units_of (entries_of bs))

@@ -1,4 +1,4 @@
--- What is kept of the same units elsewhere, which is spare.
+-- What is cached of the same units elsewhere, which is spare.
 use Rattle.std.specs.Prelude.{List, [], ◌∷◌, map, zip, Option, Some, None}
 use Rattle.tx_exec_form.specs.Evaluated.{WideTrace}
 use Rattle.tx_walk.specs.Held.{Stores}
@@ -28,11 +28,11 @@ first_spare (s ∷ ss) = s
 abbrev pub kept_spare : Entry × (KeptParts × List TreeTrace) → UnitSpare
 kept_spare p = record { trace = p.0.trace; parts = p.1.0; layers = p.1.1 }
 
--- what others have kept of the units, if there are others
+-- what the spare has cached of the units, if there is one
 abbrev pub spares_of : Option Bridged → Spares
 spares_of None = []
 spares_of (Some b) = map kept_spare (zip b.kept (zip b.parts b.layers))
 
--- what is kept of parts, and what is spare of them
+-- what is cached of parts, and what is spare of them
 abbrev pub stores_with : KeptParts → KeptParts → Stores
 stores_with ps spare = record { own = kept_at ps; spare = kept_at spare }

@@ -1,4 +1,4 @@
--- Kept parts that stand in no unit.
+-- Cached parts that are in no unit.
 use Rattle.std.specs.Prelude.{◌≡◌, ℕ, Bool, true, not, List, map, filter, Option, Some, None, option_and_then}
 use Rattle.std.specs.Prelude.{slice_get}
 use Rattle.std.specs.List.{AllByRecursion, IsDistinct}
@@ -17,7 +17,7 @@ use Rattle.tx_bridge.specs.InPlace.{begins_path}
 use Rattle.tx_bridge.specs.PartMoves.{NoneAbove}
 use Rattle.tx_bridge.specs.PartsKept.{KeptParts, part_paths}
 
--- what is kept of a part, with its path in the document, and the tree that stands there
+-- what is cached of a part, with its path in the document, and the tree there
 pub record Stray : Type 0 where
   pub kept : Stored
   pub tree : WideTree
@@ -33,17 +33,17 @@ pub record HoldsStray (s : Stray) : Type 0 where
   pub is : s.kept.trace ≡ Some trace
   pub supports : Supports trace (alone s.tree)
 
--- none stands in a unit
+-- none is in a unit
 abbrev pub AreOutside : List DocUnit → List Stray → Type 0
 AreOutside us ss = AllByRecursion (λ s. NoneAbove s.kept.path us) ss
 
--- each trace supports its tree, no two have one path, and none stands in a unit
+-- each trace supports its tree, no two have one path, and none is in a unit
 pub record AreStrays (us : List DocUnit) (ss : List Stray) : Type 0 where
   pub hold : AllByRecursion HoldsStray ss
   pub distinct : IsDistinct bytes_eq (part_paths (kept_strays ss))
   pub outside : AreOutside us ss
 
--- the trees stand in the document
+-- the trees are in the document
 abbrev pub StandAside : WideTree → List Stray → Type 0
 StandAside t ss = AllByRecursion (λ s. subtree t s.kept.path ≡ Some s.tree) ss
 

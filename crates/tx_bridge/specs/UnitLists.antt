@@ -19,7 +19,7 @@ pub record HasPathIfBody (u : DocUnit) : Type 0 where
   pub path : is_some u.path ≡ is_body_unit u.kind
   pub origin : u.tagged.at ≡ option_map (λ _. []) u.path
 
--- so it is of each, and no path is another's or begins it
+-- a paragraph of the body, and no other unit, has a path and an origin; no path is another's or begins it
 pub record AreUnits (us : List DocUnit) : Type 0 where
   pub placed : AllByRecursion HasPathIfBody us
   pub apart : NoneBegins us

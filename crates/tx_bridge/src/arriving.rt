@@ -1,4 +1,4 @@
-// Parts come to the new units in which they stand now, and those that stand in none are strays.
+// Moves parts to the new units in which they are now. Those that are in none become strays.
 ghost use Rattle.std.specs.Prelude.{◌≡◌, ◌++◌, [], ◌∷◌, length, OnOk};
 ghost use Rattle.tx_bridge.specs.Courses.{with_arrived, strays_left};
 
@@ -7,7 +7,7 @@ use crate::course::PartMove;
 use crate::strays::Stray;
 use tx_base::Memory;
 
-// The part comes behind the others of its unit, or behind the other strays.
+// Adds the part after the others of its unit, or after the other strays.
 fn put_move(new: &mut [Bridge], part_move: PartMove, strays: &mut Vec<Stray>) -> Result<(), Memory>
     ensures units { OnOk result (new.new ≡ with_arrived (part_move ∷ []) 0 new.old) }
     ensures strays { OnOk result (strays.new.items

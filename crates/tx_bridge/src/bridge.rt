@@ -1,4 +1,4 @@
-// A unit with what is kept of it.
+// A unit with what is cached of it.
 ghost use Rattle.std.specs.Prelude.{◌≡◌, ◌+◌, ◌≤◌, ◌⊎◌, [], None, Some, false, true, not, IfOk, OnOk, OnErr, IsTrue};
 ghost use Rattle.std.specs.Prelude.{MatchOption, IfSome, option_copied, ◌&&◌, ◌||◌};
 ghost use Rattle.tx_exec.specs.Outcomes.{wide_outcome, NamesOnce};
@@ -39,9 +39,9 @@ pub(crate) enum Way {
     InPlace(usize),
 }
 
-// A unit, the trace that is kept of it, or `Over` where nothing is kept, what is kept of its parts and of its layers'
-// trees, whether the parts may be those of an opener that opens something, whether the unit was reached when the last
-// refresh began, and which unit it was before the last edit that wasn't carried in place.
+// A unit with its cache: the cached trace (`Over` where nothing is cached), the cached parts, and the cached traces of
+// the trees of its layers. Also whether the parts may be those of an opener that opens something, whether the unit was
+// reached when the last refresh began, and which unit it was before the last edit that wasn't carried in place.
 #[derive(Drop)]
 pub(crate) struct Bridge {
     pub(crate) unit: Unit,
@@ -53,7 +53,7 @@ pub(crate) struct Bridge {
     pub(crate) source: Option<usize>,
 }
 
-// The same outcome.
+// The outcome, shared.
 fn share_outcome(alloc: Global, outcome: &Outcome) -> Result<Outcome, Memory>
     ensures { IfOk result (λ o. o ≡ outcome.now) }
 {
@@ -84,7 +84,7 @@ fn lent_layers<'a>(spare: Option<&'a Bridge>) -> &'a [LayerTrace]
 }
 
 impl Bridge {
-    // The unit with nothing kept.
+    // The unit, with nothing cached.
     pub(crate) fn new(alloc: Global, unit: Unit) -> Bridge
         ensures { result ≡ record {
           unit = unit;
@@ -107,8 +107,8 @@ impl Bridge {
         }
     }
 
-    // The unit has this tree now, these stand for parts of it, and its other parts stay. Answers whether what was kept
-    // sets no name.
+    // Gives the unit this tree, and puts these in place of parts of it. Its other parts are unchanged. Returns whether
+    // what was cached sets no name.
     pub(crate) fn change(&mut self, tree: Tree, others: Vec<(usize, Option<Part>)>) -> bool
         ensures changed { self.new ≡ changed_bridge tree (put_from 0 others.items self.old.parts) self.old }
         ensures silent { IsTrue result → IsSilent (wide_outcome self.old.kept) }
@@ -120,7 +120,7 @@ impl Bridge {
         silent
     }
 
-    // Takes what is kept of the old unit of number i.
+    // Takes what is cached of the old unit of number i.
     pub(crate) fn take(&mut self, old: &mut Bridge, i: usize)
         ensures { self.new ≡ record {
           unit = self.old.unit;
@@ -176,8 +176,8 @@ impl Bridge {
         }
     }
 
-    // What the unit, which has no parts, comes to at the moment, which stays. What is spare of it is shared, where that
-    // can be used, and costs nothing.
+    // The outcome of the unit, which has no parts, at the moment. The moment is unchanged. What is spare of the unit is
+    // shared, where that can be used, and costs nothing.
     fn evaluated_whole<L: Ledger>(
         &self,
         alloc: Global,
@@ -213,7 +213,8 @@ impl Bridge {
         })
     }
 
-    // What the unit comes to at the moment, which stays. A paragraph of the body is evaluated by its parts.
+    // The outcome of the unit at the moment. The moment is unchanged. A paragraph of the body is evaluated by its
+    // parts.
     fn evaluated<O: Opener, L: Ledger>(
         &self,
         alloc: Global,
@@ -261,8 +262,8 @@ impl Bridge {
         self.evaluated_whole(alloc, moment, spare, steps)
     }
 
-    // Keeps what the unit comes to at the moment, which stays, and its parts. It was reached where what was kept can't
-    // be used, or its parts aren't those that were kept. Answers the charge.
+    // Caches the outcome of the unit at the moment, and its parts. The moment is unchanged. The unit was reached if
+    // what was cached can't be used, or if its parts aren't those that were cached. Returns the charge.
     fn renew<O: Opener, L: Ledger>(
         &mut self,
         alloc: Global,
@@ -315,20 +316,20 @@ impl Bridge {
         Ok(evaluated.charge)
     }
 
-    // Whether its parts are what is kept of them wherever its trace can be used, since no opener opens anything.
+    // Whether its parts are the cached ones wherever its trace can be used, since no opener opens anything.
     fn keeps_parts(&self, shelled: bool) -> bool
         ensures { result ≡ not (has_parts self.now.unit && (shelled || self.now.shelled)) }
     {
         !(has_parts(&self.unit) && (shelled || self.shelled))
     }
 
-    // Keeps what the unit comes to at the moment, and goes behind it. Where what is kept can't be used, the unit is
-    // evaluated, unless what is spare of it can be used. Where it can, a unit with parts is evaluated all the same, if
-    // the opener may open something (it is `shelled` then), or may have done so when its parts were kept. Where
-    // `settled`, the looks are known to agree with what names have.
+    // Caches the outcome of the unit at the moment, and takes the moment past the unit. Where what is cached can't be
+    // used, the unit is evaluated, unless what is spare of it can be used. Where what is cached can be used, a unit
+    // with parts is evaluated all the same, if the opener may open something (`shelled`), or may have done so when its
+    // parts were cached. Where `settled`, the looks are known to agree with what names have.
     //
-    // Answers the charge, and whether names have behind it what they have where all units before it, and it, keep what
-    // they kept. False says nothing.
+    // Returns the charge, and whether names have after the unit what they have where it, and all units before it, have
+    // the outcomes that were cached. False says nothing.
     pub(crate) fn refresh<O: Opener, L: Ledger>(
         &mut self,
         alloc: Global,

@@ -1,4 +1,4 @@
-// All units with what is kept of them.
+// All units with what is cached of them.
 ghost use Rattle.std.specs.Prelude.{◌≡◌, ℕ, ◌+◌, ◌≤◌, ◌++◌, take, map, IfOk, OnOk, OnErr, Some, None};
 ghost use Rattle.std.specs.Prelude.{[], false, MatchOption, slice_get, IsSome, IfSome, option_and_then};
 ghost use Rattle.std.specs.Prelude.{length, List};
@@ -52,18 +52,19 @@ use tx_tree::Tree;
 use tx_units::Unit;
 use tx_walk::{LayerTrace, Part};
 
-/// All units, each with the trace that is kept of it, or nothing.
+/// All units, each with its cached trace, or nothing.
 ///
-/// At every moment what is kept of a unit supports its tree: it is the trace in every environment that agrees with its
-/// looks. So it is of each part, and of each stray: a part that is kept, but stands in no unit since an edit.
+/// At every moment what is cached of a unit supports its tree: it is the trace in every environment that agrees with
+/// its looks. This is true of each cached part too, and of each stray. A stray is a cached part that is in no unit
+/// since an edit.
 #[derive(Drop)]
 pub struct Bridges {
     pub(crate) bridges: Vec<Bridge>,
     way: Way,
-    // Whether all looks are known to agree with what the kept traces before them set.
+    // Whether all looks are known to agree with what the cached traces before them set.
     pub(crate) settled: bool,
     pub(crate) strays: Vec<Stray>,
-    // What names had behind the last unit at the last refresh.
+    // What names had after the last unit at the last refresh.
     pub(crate) end: Env,
 }
 
@@ -91,7 +92,7 @@ impl Model for Bridges {
     ghost invariant = { λ b. AreRight b.settled b.bridges.items b.strays.items };
 }
 
-// The units, with nothing kept.
+// The units, with nothing cached.
 fn bridges_of(alloc: Global, units: Vec<Unit>) -> Result<Vec<Bridge>, Memory>
     ensures { IfOk result (λ v. v.items
         ≡ map (λ u. record {
@@ -113,8 +114,8 @@ fn bridges_of(alloc: Global, units: Vec<Unit>) -> Result<Vec<Bridge>, Memory>
     )
 }
 
-// The new units, with what the old ones give through an edit of a buffer, and with the parts that move to them, and the
-// new strays. For want of memory the old ones stay.
+// Replaces the units by the new ones. These have what the old ones give through an edit of a buffer, and the parts that
+// move to them. The new strays replace the old ones. When memory runs out, the old units and strays are unchanged.
 fn give_over(
     alloc: Global,
     bridges: &mut Vec<Bridge>,
@@ -153,7 +154,7 @@ fn source_of(way: Way, bridge: &Bridge, i: usize) -> Option<usize>
 }
 
 impl Bridges {
-    /// The units, with nothing kept.
+    /// The units, with nothing cached.
     #[tactic(auto, unfolding(crate::specs::Names::EmptyTraces, crate::specs::Names::EmptyParts))]
     pub fn start(alloc: Global, units: Vec<Unit>) -> Result<Bridges, Memory>
         requires units { AreUnits units.items }
@@ -173,16 +174,18 @@ impl Bridges {
         })
     }
 
-    /// The new units after an edit of a buffer, with what was kept of the old ones that they are. A paragraph of the
-    /// body is the old one from whose path the modifications lead to its path, or, where another buffer than 0 was
-    /// edited, the one with its path. Another unit is the old one of its number, where kind and tree are the same. What
-    /// is kept of the parts of an old unit that is none of the new ones goes with the parts to the new units in which
-    /// they stand, and so do strays. Those that stand in none are the strays afterwards. Where another buffer than 0
-    /// was edited, strays stay, but for those that would stand in a new unit.
+    /// Replaces the units by the new ones after an edit of a buffer. A new unit that is an old one takes what was
+    /// cached of it. A paragraph of the body is the old one from whose path the modifications lead to its path, or,
+    /// where another buffer than 0 was edited, the one with its path. Another unit is the old one of its number, where
+    /// kind and tree are the same.
     ///
-    /// `before` is the tree of the buffer before the edit. Which old unit a new one is `source` tells afterwards, and
-    /// no two are the same one. A new unit has the tree of the old one that it is, and a path where that has one. For
-    /// want of memory all is as before.
+    /// The cached parts of an old unit that is none of the new ones move to the new units in which they are then, and
+    /// so do strays. Those that are in none are the strays afterwards. Where another buffer than 0 was edited, strays
+    /// are unchanged, but one that would be in a new unit is dropped.
+    ///
+    /// `before` is the tree of the buffer before the edit. Afterwards `source` says which old unit a new one is, and no
+    /// two are the same one. A new unit has the tree of the old one that it is, and a path where that has one. When
+    /// memory runs out, all is as before.
     pub fn carry<L: Ledger>(
         &mut self,
         alloc: Global,
@@ -229,8 +232,8 @@ impl Bridges {
         self.carry_along(alloc, buffer, before, mods, units, course)
     }
 
-    /// Where the units stand behind an edit of a buffer, after which these are the units, and in which of them the
-    /// parts of those that are none of these stand, and the strays. `carry_along` takes it. Nothing changes.
+    /// Where the units are after an edit of a buffer, after which the units are these. For the parts of old units that
+    /// are none of these, and for strays, it says in which of these they are. `carry_along` takes it. Nothing changes.
     pub fn course<L: Ledger>(
         &self,
         alloc: Global,
@@ -260,8 +263,8 @@ impl Bridges {
         )
     }
 
-    /// What `carry` does, by the course through the edit that `course` tells. It takes no step, and doesn't follow the
-    /// modifications again: its contract alone speaks of them.
+    /// Does what `carry` does, by the course through the edit that `course` returns. It takes no step, and doesn't
+    /// follow the modifications again: only its contract speaks of them.
     pub fn carry_along(
         &mut self,
         alloc: Global,
@@ -323,9 +326,9 @@ impl Bridges {
         one_changed(buffer, &self.bridges, mods)
     }
 
-    /// The parts of the unit of number `changed`, which `one_changed` tells, that aren't found to stay where they are,
-    /// with their numbers, in order: each as it stands in the unit afterwards, or None where it doesn't stay in it.
-    /// Each other part stays at its path.
+    /// The parts of the unit of number `changed`, which `one_changed` returns, that aren't found to keep their places.
+    /// They are in order, with their numbers: each as it is in the unit afterwards, or None where it isn't in the unit
+    /// any more. Each other part keeps its path.
     pub fn moved_parts<L: Ledger>(
         &self,
         alloc: Global,
@@ -346,10 +349,11 @@ impl Bridges {
         others_of_changed(alloc, before, mods, &self.bridges, changed, steps)
     }
 
-    /// What `carry` does where the unit of number `changed`, which `one_changed` tells, has this tree afterwards, and
-    /// each other one stays as it is, but that what is kept of the layers of that unit stays too. `moved` are the parts
-    /// that `moved_parts` tells. So strays whose trees hold that unit's go, and the others stay. It goes over no lists
-    /// but that of that unit's parts and that of strays, and takes no memory.
+    /// Does what `carry` does where the unit of number `changed`, which `one_changed` returns, has this tree
+    /// afterwards, and each other one is unchanged. There is one difference: what is cached of the layers of that unit
+    /// is not dropped. `moved` are the parts that `moved_parts` returns. Strays whose trees hold that unit's are
+    /// dropped, and the others are unchanged. It goes over no lists but that of that unit's parts and that of strays,
+    /// and takes no memory.
     pub fn carry_in_place(
         &mut self,
         before: &Tree,
@@ -399,7 +403,7 @@ impl Bridges {
         self.settled = self.settled && silent;
     }
 
-    /// What is kept of the unit, which after a refresh is what it comes to. None past the last unit.
+    /// What is cached of the unit. After a refresh it is the unit's outcome. None past the last unit.
     pub fn outcome(&self, i: u32) -> Option<&Outcome>
         ensures found { MatchOption result (slice_get self.now.kept i ≡ None)
             (λ o. option_map (λ e. e.trace) (slice_get self.now.kept i) ≡ Some (wide_outcome o.now)) }
@@ -413,12 +417,13 @@ impl Bridges {
         }
     }
 
-    /// What is kept of the parts of the unit, in the order of the document, each with its path from the unit's tree.
-    /// None past the last unit. After a refresh a paragraph of the body has some, unless it is over: itself, with the
-    /// empty path, where its tree is neither a `document` with a child nor a `with` of names, texts and a last child.
-    /// Another unit has none. An edit may leave some of a unit that is over until the next refresh.
+    /// What is cached of the parts of the unit, in the order of the document, each with its path from the unit's tree.
+    /// None past the last unit. After a refresh a paragraph of the body has some, unless it runs out of steps or
+    /// levels. Where its tree is neither a `document` with a child nor a `with` of names, texts and a last child, the
+    /// one part is the paragraph itself, with the empty path. Another unit has none. After an edit, a unit that runs
+    /// out may have some until the next refresh.
     ///
-    /// After a refresh a part's `renewed` tells whether nothing that fits was kept at its path when that began.
+    /// After a refresh a part's `renewed` says whether nothing that fits was cached at its path when that began.
     pub fn parts(&self, i: u32) -> Option<&[Part]>
         ensures found { MatchOption result (slice_get self.now.kept i ≡ None)
             (λ ps. slice_get self.now.parts i ≡ Some (kept_parts ps.now)) }
@@ -432,8 +437,8 @@ impl Bridges {
         }
     }
 
-    /// What is kept of the trees of the unit's layers, and None past the last unit. Each trace is its tree's wherever
-    /// the names that it looked up have the same.
+    /// What is cached of the trees of the unit's layers, and None past the last unit. Each trace is its tree's wherever
+    /// the names that it looked up have the same values.
     pub fn layers(&self, i: u32) -> Option<&[LayerTrace]>
         ensures { MatchOption result (slice_get self.now.kept i ≡ None)
             (λ ls. slice_get self.now.layers i ≡ Some ls.now) }
@@ -457,8 +462,8 @@ impl Bridges {
         }
     }
 
-    /// Behind a refresh, whether the unit was reached when that began: what was kept of it couldn't be used, or its
-    /// parts weren't these, whatever is spare. What it is behind an edit no clause says. Past the last unit it is
+    /// After a refresh, whether the unit was reached when that began: what was cached of it couldn't be used, or its
+    /// parts weren't these, whatever is spare. After an edit, no clause says what it is. Past the last unit it is
     /// false.
     pub fn reached(&self, i: u32) -> bool
         ensures { result ≡ unwrap_or (slice_get self.now.reached i) false }
@@ -480,7 +485,7 @@ impl Bridges {
         }
     }
 
-    /// Takes the moment before a unit to the moment behind it, by what is kept of it, which is what it comes to.
+    /// Takes the moment before a unit to the moment after it, by what is cached of the unit, which is its outcome.
     pub fn pass(&self, i: u32, moment: &mut Moment) -> Result<(), Memory>
         requires there { IsSome (slice_get self.now.kept i) }
         requires fresh { (e : Entry) → slice_get self.now.kept i ≡ Some e → e.trace ≡ outcome_of moment.old e.unit }
@@ -498,8 +503,8 @@ impl Bridges {
         }
     }
 
-    /// What names have behind all units, as the last refresh left it. Before the first one no name has anything. An
-    /// edit leaves it as it is.
+    /// What names have after all units, as the last refresh left it. Before the first one no name has anything. An edit
+    /// leaves it as it is.
     pub fn end(&self) -> &Env
         ensures { result.now.map ≡ self.now.end }
     {

@@ -1,4 +1,4 @@
-// Laws of what is kept through an edit.
+// Laws of what is cached, through an edit.
 ghost use Rattle.std.specs.Prelude.{◌≡◌, ℕ, List, Some, length};
 ghost use Rattle.tx_tree.specs.WideTree.{WideTree};
 ghost use Rattle.tx_mod.specs.declared.mods.Mod.{Mod as Change};
@@ -36,9 +36,10 @@ pub fn in_place_law()
         (length (units_with i tree us)) }
 {}
 
-/// A law: what `carry` says of parts and strays, read by paths of the document. Where an edit of the document changes
-/// t, in which the old units and the strays stand, a trace is kept at a path afterwards exactly where it was kept
-/// before at a path from which the modifications lead there. There is one such path at most.
+/// A law: what `carry` says of parts and strays, read by paths of the document. An edit of the document changes t,
+/// which has the trees of the old units and of the strays at their paths. Afterwards a trace is cached at a path
+/// exactly where it was cached before at a path from which the modifications lead there. There is at most one such
+/// path.
 pub fn carry_paths_law()
     ensures came { (ms : List Change) (t u : WideTree) (kept : Kept) (parts : List KeptParts) (strays : List Stray)
         (path : List ℕ) → changed_by_all ms t ≡ Some u → AreUnits (units_of kept) → AllStand t (units_of kept)

@@ -1,4 +1,4 @@
-// Where units stand after an edit, and the parts of those that are no new ones.
+// Where units are after an edit, and the parts of those that are no new ones.
 ghost use Rattle.std.specs.Prelude.{◌≡◌, ℕ, ◌≤◌, ◌+◌, ◌++◌, List, [], ◌∷◌, length, map, IfOk, IsOk, OnOk, Ok, Some};
 ghost use Rattle.std.specs.Prelude.{◌<◌, None, IfSome, IsTrue, MatchOption, is_some};
 ghost use Rattle.std.specs.List.{All, AllByRecursion, cons_option};
@@ -39,31 +39,31 @@ use tx_tree::{Path, Tree};
 use tx_units::Unit;
 use tx_walk::Part;
 
-/// A part of an old unit that is none of the new ones, or a stray, which stands somewhere now.
+/// A part of an old unit that is none of the new ones, or a stray. It is somewhere in the document afterwards.
 #[derive(Drop)]
 pub struct PartMove {
-    /// The number of the old unit. Of a stray it is that behind the last one.
+    /// The number of the old unit. For a stray it is the number of old units.
     pub from: usize,
     /// The part's number in it, or the stray's among the strays.
     pub number: usize,
-    /// The number of the new unit. Where it stands in none it is that behind the last one.
+    /// The number of the new unit. For a part that is in none it is the number of new units.
     pub to: usize,
-    /// The part, with its path from the new unit's tree. Where it stands in none this is its path in the document.
+    /// The part, with its path from the new unit's tree. For a part that is in none, this is its path in the document.
     pub part: Part,
-    // The tree that stands there.
+    // The tree at its place.
     pub(crate) tree: Tree,
 }
 
 /// What goes where through an edit.
 #[derive(Drop)]
 pub struct Course {
-    /// Where each old unit stands afterwards. None is for one without a path, and for one whose tree doesn't stay.
+    /// Where each old unit is afterwards. None is for one without a path, and for one whose tree isn't carried.
     pub places: Vec<Option<Path>>,
-    /// The parts of old units that are no new ones, in order, and the strays behind them.
+    /// The parts of old units that are no new ones, in order, and then the strays.
     pub moves: Vec<PartMove>,
 }
 
-// Goes behind the modification, and keeps the tree before it.
+// Applies the modification, and keeps the tree before it.
 fn pass<L: Ledger>(
     alloc: Global,
     tree: &mut Tree,
@@ -100,7 +100,7 @@ fn trees_before<L: Ledger>(
     Ok(trees)
 }
 
-// Where the subtree at the path stands behind all modifications, by the trees before each.
+// Where the subtree at the path is after all modifications, by the trees before each.
 fn place_along(
     alloc: Global,
     mods: &[Mod],
@@ -123,7 +123,7 @@ fn place_along(
     Ok(Some(path))
 }
 
-// Where the unit stands behind all modifications.
+// Where the unit is after all modifications.
 fn unit_place(
     alloc: Global,
     mods: &[Mod],
@@ -140,7 +140,7 @@ fn unit_place(
     }
 }
 
-// So it is of all units.
+// Where each unit is after all modifications.
 fn unit_places(
     alloc: Global,
     mods: &[Mod],
@@ -168,8 +168,8 @@ fn is_above(unit: &Unit, place: &Path) -> bool
     }
 }
 
-// How the numbers of units are told by their paths: each path has so many numbers, and the last one is how far its unit
-// stands behind the first one with a path.
+// How the numbers of units are found by their paths. Each path has so many numbers, and the last one says how far its
+// unit is after the first one with a path.
 #[derive(Clone, Copy, Drop)]
 pub(crate) struct Order {
     first: usize,
@@ -264,7 +264,7 @@ fn number_above(units: &[Unit], order: Option<Order>, place: &Path, hint: usize)
     }
 }
 
-// Whether no unit stands at the place, and the number of the unit that is likely to stand at the next one.
+// Whether no unit is at the place, and the number of the unit that is likely to be at the next one.
 fn is_vacant(
     place: &Option<Path>,
     units: &[Unit],
@@ -284,8 +284,8 @@ fn is_vacant(
     }
 }
 
-// The number of the unit at the place or above it, and the rest of the place. Where there is none, it is the number
-// behind the last one, and the whole place.
+// The number of the unit at the place or above it, and the rest of the place. Where there is none, it is the number of
+// units, and the whole place.
 fn unit_above(
     alloc: Global,
     units: &[Unit],
@@ -309,13 +309,13 @@ fn unit_above(
     }
 }
 
-// Where the part behind one that stands there is likely to stand.
+// The number of the unit in which the next part is likely to be: that of the last part's unit, if there is one.
 fn next_hint(to: usize, number: usize, hint: usize) -> usize {
     if to < number { to } else { hint }
 }
 
-// Adds the part of number k of the old unit i, or the stray of this number, which stood at the path by this tree, if it
-// stands anywhere. Answers where the next one is likely to stand.
+// Adds the part of number k of the old unit i, or the stray of this number, which was at the path with this tree, if it
+// is anywhere afterwards. Returns the number of the unit in which the next one is likely to be.
 fn add_move(
     alloc: Global,
     mods: &[Mod],
@@ -359,7 +359,8 @@ fn add_move(
     Ok(next_hint(to, units.len(), hint))
 }
 
-// So it is of the part of number k of the old unit i, which stands at the path by this tree.
+// Adds the part of number k of the old unit i, if it is anywhere afterwards. The unit was at the path with this tree.
+// Returns the number of the unit in which the next one is likely to be.
 fn add_part(
     alloc: Global,
     mods: &[Mod],
@@ -399,7 +400,7 @@ fn add_part(
     }
 }
 
-// So it is of all parts of the old unit i at the path, which has this tree.
+// Adds all parts of the old unit i that are anywhere afterwards. The unit was at the path with this tree.
 fn add_moves(
     alloc: Global,
     mods: &[Mod],
@@ -436,7 +437,7 @@ fn add_moves(
     Ok(())
 }
 
-// So it is of the old unit i, which stands at this place now, if it is no new one.
+// Adds the parts of the old unit i, which is at this place now, if it is no new one.
 fn add_unit_moves(
     alloc: Global,
     mods: &[Mod],
@@ -487,7 +488,7 @@ fn add_unit_moves(
     Ok(next)
 }
 
-// The moves of the parts of all units, where the old units stand at these places now.
+// The moves of the parts of all units, where the old units are at these places now.
 fn moves_of(
     alloc: Global,
     mods: &[Mod],
@@ -530,7 +531,7 @@ fn moves_of(
     Ok(moves)
 }
 
-// The moves of strays come behind. They count as parts of the old unit i.
+// Adds the moves of strays, after those of parts. They count as parts of the old unit i.
 fn add_strays(
     alloc: Global,
     mods: &[Mod],
@@ -631,7 +632,7 @@ fn is_outside(units: &[Unit], order: Option<Order>, place: &Path) -> bool
     }
 }
 
-// Adds the stray of number k, which stays where it is, if it is in no new unit. It counts as a part of the old unit i.
+// Adds the stray of number k, whose place is unchanged, if it is in no new unit. It counts as a part of the old unit i.
 fn add_aside(
     alloc: Global,
     units: &[Unit],

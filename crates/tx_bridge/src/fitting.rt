@@ -1,4 +1,4 @@
-// Whether what is kept can be used.
+// Whether what is cached can be used.
 ghost use Rattle.std.specs.Prelude.{◌≡◌, true, ◌&&◌, IsTrue};
 ghost use Rattle.tx_bridge.specs.HeldParts.{is_same_part, are_same_parts};
 ghost use Rattle.std.specs.List.{list_all};
@@ -21,7 +21,7 @@ fn agrees_or(env: &Env, looks: &Looks, settled: bool) -> bool
     settled || looks_agree(env, looks)
 }
 
-// Whether what is kept can be used at the moment. Where `settled`, its looks are known to agree with what names have.
+// Whether what is cached can be used at the moment. Where `settled`, its looks are known to agree with what names have.
 pub(crate) fn can_be_used(moment: &Moment, kept: &Outcome, settled: bool) -> bool
     requires once { NamesOnce kept.now }
     requires settled { settled ≡ true → AgreesWith moment.now.env (wide_outcome kept.now) }
@@ -56,14 +56,14 @@ fn same_parts(kept: &[Part], parts: &[Part]) -> bool
     true
 }
 
-// Whether what is kept of a unit can be used, and its parts are the same ones as were kept.
+// Whether what is cached of a unit can be used, and its parts are the cached ones.
 pub(crate) fn stays_kept(used: bool, kept: &[Part], parts: &[Part]) -> bool
     ensures { result ≡ (used && are_same_parts kept.now parts.now) }
 {
     used && same_parts(kept, parts)
 }
 
-/// Whether a unit that comes to this sets no name.
+/// Whether a unit with this outcome sets no name.
 pub fn is_silent(kept: &Outcome) -> bool
     ensures { IsTrue result → IsSilent (wide_outcome kept.now) }
 {

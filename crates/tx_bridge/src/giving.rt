@@ -1,4 +1,4 @@
-// What is kept of an old unit is given to the new one that it is.
+// What is cached of an old unit is given to the new one that it is.
 ghost use Rattle.std.specs.Prelude.{◌≡◌, ℕ, ◌<◌, ◌≤◌, None, Some, length, IfSome, IsTrue};
 ghost use Rattle.tx_bridge.specs.Carrying.{same_kind, same_unit, is_path};
 ghost use Rattle.tx_bridge.specs.Slots.{IsSlot, IsPathSlot, AreMoved, HaveOwnPaths, AllPlaced, given_from, given_all};
@@ -87,7 +87,7 @@ pub(crate) fn first_body(new: &[Bridge]) -> usize
     new.len()
 }
 
-// The number of the first unit with a path, where each path's last number is how far its unit stands behind that one.
+// The number of the first unit with a path, where each path's last number is how far its unit is after that one.
 fn order_of(new: &[Bridge]) -> Option<usize>
     ensures { IfSome result (λ first. HasOrder first new.now) }
 {
@@ -163,7 +163,7 @@ fn same_slot(new: &[Bridge], i: usize, unit: &Unit) -> Option<usize>
     }
 }
 
-// The number of the new unit that is the old one, which stands at the place now.
+// The number of the new unit that is the old one, which is at the place now.
 fn slot_of(
     new: &[Bridge],
     place: &Option<Path>,
@@ -192,7 +192,8 @@ fn slot_of(
     }
 }
 
-// Gives what is kept of the old unit to the new one that it is, and answers where the next one is likely to be.
+// Gives what is cached of the old unit to the new one that it is. Returns the number that the next one is likely to
+// have.
 fn give(
     new: &mut [Bridge],
     place: &Option<Path>,
@@ -217,7 +218,7 @@ fn give(
     }
 }
 
-// Gives what is kept of all old units, which stand at these places now. It takes no memory.
+// Gives what is cached of all old units, which are at these places now. It takes no memory.
 pub(crate) fn give_all(new: &mut [Bridge], places: &[Option<Path>], old: &mut [Bridge])
     requires apart { HaveOwnPaths new.old }
     requires number { length places.now ≡ length old.old }

@@ -1,4 +1,4 @@
-// An edit inside one paragraph changes one unit, and each other one stays at its number and its path.
+// An edit inside one paragraph changes one unit. Each other one keeps its number and its path.
 ghost use Rattle.std.specs.Prelude.{◌≡◌, ◌<◌, ◌≤◌, ◌+◌, ◌++◌, [], ◌∷◌, length, Some, true};
 ghost use Rattle.std.specs.Prelude.{IfOk, IsOk, IsTrue, OnOk, MatchOption, if◌then◌else◌};
 ghost use Rattle.std.specs.Prelude.{slice_get};
@@ -53,14 +53,14 @@ fn begins(front: &Path, path: &Path) -> bool
     path.steps().starts_with(front.steps())
 }
 
-// Whether the modification, if it is inside the subtree at the path, leaves that subtree nowhere.
+// Whether the modification, if it is inside the subtree at the path, carries that subtree nowhere.
 fn leaves_nowhere(path: &Path, m: &Mod) -> bool
     ensures { result ≡ leaves_nowhere path.now m.now }
 {
     !wraps(m) || path.steps().len() < m.path().steps().len()
 }
 
-// Whether the first modification does.
+// Whether there is a first modification, and, if it is inside the subtree at the path, it carries that nowhere.
 pub(crate) fn is_gone(path: &Path, mods: &[Mod]) -> bool
     ensures { result ≡ is_gone path.now mods.now }
 {
@@ -77,7 +77,7 @@ pub(crate) fn are_within(path: &Path, mods: &[Mod]) -> bool
     mods.iter().all(|m| begins(path, m.path()))
 }
 
-// Whether all modifications are inside the unit's tree, and leave it nowhere.
+// Whether all modifications are inside the unit's tree, and carry it nowhere.
 fn is_changed(mods: &[Mod], unit: &Unit) -> bool
     ensures { result ≡ is_changed mods.now unit.now }
 {
@@ -87,7 +87,7 @@ fn is_changed(mods: &[Mod], unit: &Unit) -> bool
     }
 }
 
-// The number that the unit at a front of the path has, where paragraphs stand in order. It is only likely.
+// The likely number of the unit at a front of the path: the number that it has where paragraphs are in order.
 fn likely(bridges: &[Bridge], path: &Path) -> usize {
     let first = first_body(bridges);
     let Some(bridge) = bridges.get(first) else {
@@ -142,7 +142,7 @@ pub(crate) fn one_changed(buffer: u32, bridges: &[Bridge], mods: &[Mod]) -> Opti
     changed_unit(bridges, mods)
 }
 
-// The number, if the part isn't found to stay.
+// Adds the number, if the part isn't found to keep its place.
 fn add_if_other(
     mods: &[Mod],
     path: &Path,
@@ -160,7 +160,7 @@ fn add_if_other(
     Ok(())
 }
 
-// The numbers of the parts of the unit at this path that aren't found to stay.
+// The numbers of the parts of the unit at this path that aren't found to keep their places.
 fn others_of(alloc: Global, mods: &[Mod], path: &Path, parts: &[Part]) -> Result<Vec<usize>, Memory>
     requires within { are_within path.now mods.now ≡ true }
     ensures { IfOk result (λ v. v.items ≡ others_from mods.now path.now 0 parts.now) }
@@ -172,8 +172,8 @@ fn others_of(alloc: Global, mods: &[Mod], path: &Path, parts: &[Part]) -> Result
     Ok(numbers)
 }
 
-// What is to stand for parts of the unit at this path that aren't found to stay: the parts with their new paths, and
-// None for one that doesn't stay in it.
+// What replaces the parts of the unit at this path that aren't found to keep their places: each with its new path, and
+// None for one that isn't in the unit any more.
 fn others_behind<L: Ledger>(
     alloc: Global,
     before: &Tree,
@@ -199,7 +199,7 @@ fn others_behind<L: Ledger>(
     others_at(alloc, path, &places, parts, &numbers)
 }
 
-// What is to stand for parts of the unit of this number, inside which all modifications are. Each other part stays.
+// What replaces parts of the unit of this number, inside which all modifications are. Each other part keeps its path.
 pub(crate) fn others_of_changed<L: Ledger>(
     alloc: Global,
     before: &Tree,
@@ -224,8 +224,8 @@ pub(crate) fn others_of_changed<L: Ledger>(
     }
 }
 
-// The unit of this number has this tree now, and these stand for parts of it. Answers whether what was kept sets no
-// name.
+// Gives the unit of this number this tree, and puts these in place of parts of it. Returns whether what was cached sets
+// no name.
 pub(crate) fn change_one(
     bridges: &mut [Bridge],
     tree: Tree,

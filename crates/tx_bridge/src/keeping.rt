@@ -46,7 +46,7 @@ fn keeps_by_join(i: u32, rest: &[u32]) -> bool
     }
 }
 
-// Whether what stands there, seen from the modification's path, stays.
+// Whether the modification keeps the place `rest`, seen from its path.
 fn keeps_at(m: &Mod, rest: &[u32]) -> bool
     ensures { result ≡ keeps_at m.now rest.now }
 {
@@ -60,7 +60,7 @@ fn keeps_at(m: &Mod, rest: &[u32]) -> bool
     }
 }
 
-// Whether what stands at `below` stays, where the modification is at `own`, both seen from one path.
+// Whether the modification keeps the place `below`, where its own path is `own`, both seen from one path.
 fn keeps_below(m: &Mod, own: &[u32], below: &[u32]) -> bool
     ensures { result ≡ option_map_or (keeps_at m.now) (rest_behind own.now below.now)
         (not (is_some (rest_behind below.now own.now))) }
@@ -71,7 +71,7 @@ fn keeps_below(m: &Mod, own: &[u32], below: &[u32]) -> bool
     !own.starts_with(below)
 }
 
-// So it is of what stands at `below`, seen from `base`, inside whose subtree the modification is.
+// Whether the modification keeps the place `below`, seen from `base`. The modification is inside the subtree at `base`.
 fn keeps_place(m: &Mod, base: &Path, below: &Path) -> bool
     requires { begins_path base.now (path_of m.now) ≡ true }
     ensures { result ≡ keeps_place m.now (base.now ++ below.now) }
@@ -79,10 +79,11 @@ fn keeps_place(m: &Mod, base: &Path, below: &Path) -> bool
     keeps_below(m, &m.path().steps()[base.steps().len()..], below.steps())
 }
 
-/// Whether what stands at `below`, seen from the path `base`, is found to stay there through all modifications, which
-/// are all inside the subtree at `base`. It goes by paths and numbers alone: it looks at no tree, and takes no memory.
+/// Whether the place `below`, seen from the path `base`, is found to be unchanged by all modifications, which are all
+/// inside the subtree at `base`. It goes by paths and numbers alone: it looks at no tree, and takes no memory.
 ///
-/// Where the modifications apply, what is found to stay is carried to its own path (`keeping_law`). False says nothing.
+/// Where the modifications apply, the subtree at a place that is found to be unchanged is carried to its own path
+/// (`keeping_law`). False says nothing.
 pub fn all_keep_place(mods: &[Mod], base: &Path, below: &Path) -> bool
     requires within { are_within base.now mods.now ≡ true }
     ensures { result ≡ all_keep_place mods.now (base.now ++ below.now) }

@@ -33,9 +33,9 @@ use tx_mod::carried_law;
 use tx_parts::{opened_cost_law, opened_fitting_law, opened_standing_law, opener_law};
 use tx_units::body_laws;
 
-/// A law: the units of buffers are such as `Bridges` asks for, and their trees stand at their paths in the document.
-/// The units of one document have one tree where they have one path. At most one is such that modifications are all
-/// inside its tree, which they leave nowhere.
+/// A law: the units of buffers are as `Bridges` needs them, and their trees are at their paths in the document. Units
+/// of one document that have one path have one tree. There is at most one unit such that all modifications are inside
+/// its tree and its tree is carried nowhere.
 pub fn unit_list_laws()
     ensures units { (buffers : List Buffer) → AreUnits (units buffers) }
     ensures stand { (buffers : List Buffer) → AllStand (document_of buffers) (units buffers) }
@@ -47,7 +47,7 @@ pub fn unit_list_laws()
     body_laws();
 }
 
-/// A law: where modifications apply, what is kept of a part of the unit at a path is kept at the part's path
+/// A law: where modifications apply, what is cached of a part of the unit at a path is cached at the part's path
 /// afterwards, if they carry the part's place in the document to itself.
 pub fn staying_parts_law()
     ensures { (ms : List Change) (t : WideTree) (path : List ℕ) (kept : KeptParts) → StaysKept ms t path kept }
@@ -55,7 +55,7 @@ pub fn staying_parts_law()
     carried_law();
 }
 
-/// A law: what stands at a path that modifications are found to keep, where they apply, is carried to that very path.
+/// A law: where modifications apply, and are found to keep a place, the subtree there is carried to that very path.
 pub fn keeping_law()
     ensures { (ms : List Change) (t u : WideTree) (q : List ℕ) → changed_by_all ms t ≡ Some u
         → all_keep_place ms q ≡ true → carried_by_all ms t q ≡ Some q }
@@ -63,8 +63,8 @@ pub fn keeping_law()
 
 /// A law: where nothing is spare, `refresh_from` charges what `refresh` does. A unit is charged nothing where a trace
 /// that is spare of it can be used at the moment, and its parts are spare as well, as a refresh leaves both of them, at
-/// whatever moment. Where trees have shells, it is charged then what its layers cost, by what is kept of them and is
-/// spare: nothing, where nothing was left to evaluate of them at the moment of the spare's refresh.
+/// whatever moment. Where trees have shells, the unit is then charged what its layers cost, by what is cached of them
+/// and what is spare. This is nothing where nothing was left to evaluate of them at the moment of the spare's refresh.
 pub fn spare_law()
     ensures nothing { (m : Moment) (es : Kept) (pss : List KeptParts)
         → charges_with m es pss [] ≡ charges_from m es pss }
@@ -89,10 +89,10 @@ pub fn spare_law()
     opened_cost_law();
 }
 
-/// A law: a unit stays where its trace can be used at the moment, and its parts are kept as well, as a refresh leaves
-/// both of them, at whatever moment. A unit that stays is charged what its layers cost, by what is kept of them and
-/// spare: where nothing has a shell, nothing. So it is where nothing was left to evaluate of its layers at the moment
-/// of its refresh, and what is kept of them is what it was then.
+/// A law: a unit isn't reached where its trace can be used at the moment, and its parts are cached as well, as a
+/// refresh leaves both of them, at whatever moment. Such a unit is charged what its layers cost, by what is cached of
+/// them and what is spare. This is nothing where nothing has a shell. It is nothing too where nothing was left to
+/// evaluate of its layers at the moment of its refresh, and what is cached of them is what it was then.
 pub fn staying_law()
     ensures stays { (sheller : Sheller) → IsSheller sheller → (m n : Moment) (e : Entry) (trace : WideTrace)
         → HasPathIfBody e.unit → e.trace ≡ Some trace → outcome_of n e.unit ≡ Some trace
@@ -113,12 +113,14 @@ pub fn staying_law()
     opened_cost_law();
 }
 
-/// A law: what a refresh is charged is no more than the bound. The bound counts for each unit that is over all that it
-/// may take; for a paragraph of the body that is touched the costs of its parts that aren't held, and of all trees of
-/// its layers; for one that isn't what is left to evaluate of its layers; for another unit, where nothing of it can be
-/// used, its cost. A paragraph is touched where neither its trace can be used nor the spare's, or where one of its
-/// parts isn't held. What is left of the layers of one that isn't touched is nothing where the trace that can be used,
-/// its own or the spare's, came with the layers that are held, as `staying_law` and `spare_law` say (`again`).
+/// A law: what a refresh is charged is at most the bound. For each unit that runs out of steps or levels, the bound
+/// counts all that it may take. For a paragraph of the body that is touched, it counts the costs of its parts that
+/// aren't held, and of all trees of its layers; for one that isn't touched, what is left to evaluate of its layers. For
+/// another unit, where nothing of it can be used, it counts its cost.
+///
+/// A paragraph is touched where neither its trace can be used nor the spare's, or where one of its parts isn't held.
+/// What is left of the layers of one that isn't touched is nothing where the trace that can be used, its own or the
+/// spare's, came with the layers that are held, as `staying_law` and `spare_law` say (`again`).
 pub fn bound_law()
     ensures { (start : List (Name × WideTree)) (sheller : Sheller) → IsSheller sheller → (kept : Kept)
         (parts : List KeptParts) (layers : List (List TreeTrace)) (spares : Spares) → AreUnits (units_of kept)

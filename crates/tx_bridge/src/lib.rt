@@ -1,4 +1,4 @@
-//! Kept evaluations: of each unit the trace that it came to last, which is used again where it still fits.
+//! The cache of evaluations: of each unit the trace that it evaluated to last, which is used again where it still fits.
 //!
 //! After [`Bridges::refresh`] the outcomes are those of evaluating all units from nothing. Contracts of the crates
 //! above cite the names of `specs/Names.antt` and don't open them.

@@ -1,4 +1,4 @@
-// Units evaluated one behind the other.
+// Units evaluated in order.
 ghost use Rattle.std.specs.Prelude.{◌≡◌, ◌+◌, ◌*◌, ◌≤◌, IfOk, OnOk, OnErr};
 ghost use Rattle.tx_tree.specs.WideTree.{size_of};
 ghost use Rattle.tx_env.specs.Environments.{overlaid};
@@ -46,7 +46,7 @@ fn set_names(env: &mut Env, writes: &Writes) -> Result<(), Memory>
     env.overlay(writes)
 }
 
-// What a unit comes to, its parts, what the trees of its layers came to, and what it was charged.
+// The outcome of a unit, its parts, the traces of the trees of its layers, and its charge.
 #[derive(Drop)]
 pub(crate) struct Evaluated {
     pub(crate) outcome: Outcome,
@@ -127,7 +127,7 @@ impl Moment {
         MOST_UNIT_STEPS.min(self.left)
     }
 
-    // What a unit with this tree comes to. The moment stays.
+    // The outcome of a unit with this tree. The moment is unchanged.
     pub(crate) fn outcome<L: Ledger>(
         &mut self,
         alloc: Global,
@@ -144,7 +144,7 @@ impl Moment {
         Ok(outcome)
     }
 
-    // What a unit that comes to this is charged.
+    // The charge of a unit with this outcome.
     pub(crate) fn charge_of(&self, outcome: &Outcome) -> u64
         ensures { result ≡ charge self.now (wide_outcome outcome.now) }
     {
@@ -154,8 +154,8 @@ impl Moment {
         }
     }
 
-    // What the paragraph of the body comes to, of which these parts and trees of layers are kept, and these are spare.
-    // Where it isn't `shelled`, the opener opens nothing. The moment stays.
+    // The outcome of the paragraph of the body, of which these parts and trees of layers are cached, and these are
+    // spare. Where it isn't `shelled`, the opener opens nothing. The moment is unchanged.
     pub(crate) fn by_parts<O: Opener, L: Ledger>(
         &mut self,
         alloc: Global,
@@ -216,7 +216,7 @@ impl Moment {
         })
     }
 
-    // Goes behind a unit that comes to this.
+    // Takes the moment past a unit with this outcome.
     pub(crate) fn go_behind(&mut self, outcome: &Outcome) -> Result<(), Memory>
         requires once { NamesOnce outcome.now }
         requires enough { charge self.old (wide_outcome outcome.now) ≤ self.old.left }
@@ -236,7 +236,7 @@ impl Moment {
         Ok(())
     }
 
-    /// The value of a unit with this tree. The moment is then the one behind it.
+    /// The value of a unit with this tree. The moment is then the one after it.
     pub fn evaluate<L: Ledger>(
         &mut self,
         alloc: Global,
@@ -257,7 +257,7 @@ impl Moment {
     }
 }
 
-// The value of a unit that comes to this.
+// The value of a unit with this outcome.
 fn value_from(alloc: Global, outcome: Outcome) -> Result<Value, Memory>
     ensures { IfOk result (λ v. v ≡ unit_value (wide_outcome outcome)) }
 {
@@ -267,7 +267,7 @@ fn value_from(alloc: Global, outcome: Outcome) -> Result<Value, Memory>
     }
 }
 
-/// What a unit that is over comes to.
+/// The value of a unit that runs out of steps or levels.
 pub fn over_value(alloc: Global) -> Result<Value, Memory>
     ensures { IfOk result (λ v. v ≡ over_value) }
 {

@@ -1,4 +1,4 @@
-// Where subtrees stand after modifications.
+// Where subtrees are after modifications.
 ghost use Rattle.std.specs.Prelude.{◌≡◌, ◌≤◌, ◌+◌, length, map, IfOk, IsOk, OnOk, Ok, Some};
 ghost use Rattle.std.specs.Prelude.{option_and_then};
 ghost use Rattle.tx_tree.specs.WideTree.{WideTree};
@@ -86,8 +86,8 @@ fn go_behind<L: Ledger>(
     Ok(())
 }
 
-/// Where the subtrees at these paths stand after all modifications, in the same order: None is for a path that is none,
-/// and for a subtree that doesn't stay. `before` is the tree before the first modification.
+/// Where the subtrees at these paths are after all modifications, in the same order. None is for a path that is None,
+/// and for a subtree that isn't carried. `before` is the tree before the first modification.
 pub fn places_after<L: Ledger>(
     alloc: Global,
     before: &Tree,

@@ -33,7 +33,7 @@ use tx_exec_form::trace_laws;
 use tx_parts::{opened_cost_law, opened_fitting_law, opened_standing_law, opener_law};
 use tx_walk::{Closed, Opener};
 
-// What others have kept of the units, and nothing where there are no others.
+// What the spare has cached of the units, and nothing where there is no spare.
 fn lent_bridges<'a>(spare: Option<&'a Bridges>) -> &'a [Bridge]
     ensures spares { spares_in result.now ≡ spares_of (option_copied spare.entry) }
     ensures kept { MatchOption (option_copied spare.entry) (result.now ≡ [])
@@ -46,18 +46,18 @@ fn lent_bridges<'a>(spare: Option<&'a Bridges>) -> &'a [Bridge]
     }
 }
 
-// What others have kept of the unit of this number.
+// What the spare has cached of the unit of this number.
 fn lent_at(lent: &[Bridge], i: usize) -> Option<&Bridge>
     ensures { option_copied result ≡ slice_get lent.now i }
 {
     lent.get(i)
 }
 
-// Brings each unit to what evaluating from this moment on gives, and answers the charges. The moment is then the one
-// behind them all. For want of memory it stops: those before are brought there, and the others are as they were.
+// Brings each unit to what evaluating from this moment on gives, and returns the charges. The moment is then the one
+// after them all. When memory runs out it stops: the units before are up to date, and the others are as they were.
 //
-// Where all looks are known to agree with what the kept traces before them set, none are compared, up to a unit that is
-// evaluated anew and sets names, or whose kept trace did.
+// Where all looks are known to agree with what the cached traces before them set, none are compared, up to a unit that
+// is evaluated anew and sets names, or whose cached trace did.
 //
 // Where it isn't `shelled`, the opener opens nothing.
 fn refresh_all<O: Opener, L: Ledger>(
@@ -120,16 +120,16 @@ fn refresh_all<O: Opener, L: Ledger>(
 }
 
 impl Bridges {
-    /// Brings each unit to what evaluating all from nothing gives. What is kept of a unit is used again where its looks
-    /// agree with what names have before it, and its cost is allowed. The steps rise by the charges, which it answers:
-    /// a paragraph of the body is charged its parts of which nothing that fits is kept, and another unit its cost,
-    /// where nothing that fits is kept of it. A paragraph is reached also where its parts aren't those that were kept,
-    /// as behind a refresh with an opener.
+    /// Brings each unit to what evaluating all from nothing gives. What is cached of a unit is used again where its
+    /// looks agree with what names have before it, and its cost is allowed. It returns the charges, and the steps rise
+    /// by them. A paragraph of the body is charged its parts of which nothing that fits is cached. Another unit is
+    /// charged its cost, where nothing that fits is cached of it. A paragraph is reached also where its parts aren't
+    /// those that were cached, as after a refresh with an opener.
     ///
-    /// What is kept of a part whose flag is down behind it is what was kept at the part's path. Of a unit that wasn't
-    /// reached all that was kept of its parts stays. Strays go.
+    /// What is cached of a part whose flag is down afterwards is what was cached at the part's path. The cached parts
+    /// of a unit that wasn't reached are unchanged. Strays are dropped.
     ///
-    /// For want of memory the units before some number are brought there, and the others are as they were, as strays
+    /// When memory runs out, the units before some number are up to date, and the others are as they were, as strays
     /// are.
     pub fn refresh<L: Ledger>(&mut self, alloc: Global, steps: &mut Steps<L>) -> Result<u64, Memory>
         ensures fresh { OnOk result (self.new.kept ≡ FreshTraces self.old.kept) }
@@ -162,9 +162,9 @@ impl Bridges {
     /// Brings each unit to what evaluating all of them gives where these names are set before the first one, in order.
     /// `refresh` is this with no names and no spare.
     ///
-    /// What the spare has kept of the same units, of which nothing more is known, serves where what is kept doesn't,
-    /// and costs nothing: of a paragraph of the body part by part, and of another unit the whole. Flags don't count it:
-    /// they say whether what was kept fits. The spare stays as it is.
+    /// The spare is a cache of the same units, of which nothing more is known. It is used where what is cached here
+    /// doesn't fit, and costs nothing: of a paragraph of the body part by part, and of another unit the whole. Flags
+    /// don't count it: they say whether what was cached here fits. The spare is unchanged.
     #[tactic(auto, unfolding(crate::specs::Names::EndFrom))]
     pub fn refresh_from<L: Ledger>(
         &mut self,
@@ -204,13 +204,14 @@ impl Bridges {
         self.refresh_by(alloc, start, spare, &Closed, false, steps)
     }
 
-    /// The same where tags have the shells that the opener tells: these are gone into, so that what stands inside are
-    /// parts. What the trees of their layers came to is kept as well.
+    /// Does what `refresh_from` does, where tags have the shells that the opener gives them. These tags are opened: the
+    /// trees inside them are parts. The traces of the trees of their layers are cached as well.
     ///
-    /// A paragraph of the body is charged its parts and the trees of its layers that neither what is kept holds nor the
-    /// spare, and one for each node of what the layers' names are set to by these trees, whatever is kept of the whole.
-    /// So another refresh with this opener, at which names have the same, is charged nothing for layers. A paragraph is
-    /// reached also where its parts aren't those that were kept, as after a refresh with another opener.
+    /// A paragraph of the body is charged its parts and the trees of its layers that neither the cache nor the spare
+    /// holds. It is also charged one for each node of what the layers' names are set to by these trees, whatever is
+    /// cached of the whole. So another refresh with this opener, at which names have the same values, is charged
+    /// nothing for layers. A paragraph is reached also where its parts aren't those that were cached, as after a
+    /// refresh with another opener.
     pub fn refresh_with<O: Opener, L: Ledger>(
         &mut self,
         alloc: Global,
@@ -257,7 +258,7 @@ impl Bridges {
         self.refresh_by(alloc, start, spare, opener, true, steps)
     }
 
-    // The same. Where it isn't `shelled`, the opener opens nothing.
+    // Does what `refresh_with` does. Where it isn't `shelled`, the opener opens nothing.
     #[tactic(auto, unfolding(crate::specs::Names::FreshTracesFrom, crate::specs::Names::FreshPartsBy))]
     fn refresh_by<O: Opener, L: Ledger>(
         &mut self,

@@ -1,4 +1,4 @@
-// Some elements of a list are replaced or go, and each other one stays.
+// Some elements of a list are replaced or dropped, and each other one is unchanged.
 ghost use Rattle.std.specs.Prelude.{◌≡◌, ◌++◌, ◌+◌, ◌<◌, ◌≤◌, [], ◌∷◌, List, take, drop, length};
 ghost use Rattle.std.specs.Prelude.{MatchOption, slice_index_or, slice_set};
 ghost use Rattle.tx_walk.specs.declared.part.Part.{Part as DonePart};
@@ -6,7 +6,7 @@ ghost use Rattle.tx_bridge.specs.Others.{and_some, put_from};
 
 use tx_walk::Part;
 
-// What is to stand for the part of number i, if the first other from number k on is for it.
+// What replaces the part of number i, if the first other from number k on is for it.
 fn taken(others: &mut [(usize, Option<Part>)], k: usize, i: usize) -> Option<Option<Part>>
     ensures { MatchOption result ((others.new ≡ others.old) × ((q : DonePart) (qs : List DonePart)
         → put_from i (drop k others.new) (q ∷ qs) ≡ q ∷ put_from (i + 1) (drop k others.new) qs))
@@ -39,8 +39,8 @@ fn put_at(parts: &mut [Part], at: usize, part: Part)
     parts[at] = part;
 }
 
-// One part more: it moves down to the number `at`, or another one is put there, or none. Answers the next such number,
-// and that of the next other.
+// Takes one part more: moves it down to the number `at`, or puts another one there, or none. Returns the next such
+// number, and the number of the next other.
 fn put_next(
     parts: &mut [Part],
     others: &mut [(usize, Option<Part>)],
@@ -68,8 +68,8 @@ fn put_next(
     }
 }
 
-/// Puts the others in the places of the parts of these numbers, which are in order; one that is none goes. Of the parts
-/// before the first one memory is only read.
+/// Puts the others in the places of the parts of these numbers, which are in order. Where an other is None, the part is
+/// dropped. Memory of the parts before the first one is only read.
 pub(crate) fn put_all(parts: &mut Vec<Part>, others: Vec<(usize, Option<Part>)>)
     ensures { parts.new.items ≡ put_from 0 others.items parts.old.items }
 {

@@ -1,4 +1,4 @@
-// Kept parts that stand in no unit.
+// Cached parts that are in no unit.
 ghost use Rattle.std.specs.Prelude.{◌≡◌, filter};
 ghost use Rattle.tx_bridge.specs.Strays.{is_beside};
 
@@ -6,10 +6,10 @@ use tx_tree::{Path, Tree};
 use tx_units::Unit;
 use tx_walk::Part;
 
-/// A part that is kept and stands in no unit.
+/// A cached part that is in no unit.
 #[derive(Drop)]
 pub(crate) struct Stray {
-    // The tree that stands there.
+    // The tree at its place.
     pub(crate) tree: Tree,
     // Its path is that in the document.
     pub(crate) part: Part,
@@ -25,7 +25,7 @@ fn is_beside(unit: &Unit, place: &Path) -> bool
     }
 }
 
-/// Those whose trees hold the unit's go.
+/// Drops those whose trees hold the unit's.
 pub(crate) fn keep_beside(strays: &mut Vec<Stray>, unit: &Unit)
     ensures { strays.new.items ≡ filter (λ s. is_beside unit.now.path s.part.path) strays.old.items }
 {

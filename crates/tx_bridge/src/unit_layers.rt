@@ -1,11 +1,11 @@
-// What is kept of the trees of a unit's layers.
+// What is cached of the trees of a unit's layers.
 ghost use Rattle.std.specs.Prelude.{◌≡◌, []};
 
 use std::alloc::Global;
 use std::marker::Model;
 use tx_walk::LayerTrace;
 
-/// What the trees of a unit's layers came to. Contracts see their list.
+/// The cached traces of the trees of a unit's layers. Contracts see their list.
 #[derive(Drop)]
 pub(crate) struct UnitLayers {
     all: Vec<LayerTrace>,

@@ -1,4 +1,4 @@
-// What is kept of the parts of a unit.
+// What is cached of the parts of a unit.
 ghost use Rattle.std.specs.Prelude.{◌≡◌, ◌++◌, List, [], ◌∷◌, OnOk};
 ghost use Rattle.tx_walk.specs.declared.part.Part.{Part as DonePart};
 ghost use Rattle.tx_bridge.specs.PartsKept.{has_parts};
@@ -12,7 +12,7 @@ use tx_base::Memory;
 use tx_units::Unit;
 use tx_walk::Part;
 
-/// The parts of a unit that are kept, and whether some may be marked as renewed. Contracts see their list.
+/// The cached parts of a unit, and whether some may be marked as renewed. Contracts see their list.
 #[derive(Drop)]
 pub(crate) struct UnitParts {
     all: Vec<Part>,
@@ -71,7 +71,7 @@ impl UnitParts {
         &self.all
     }
 
-    /// The part comes behind the others.
+    /// Adds the part after the others.
     pub(crate) fn add(&mut self, part: Part) -> Result<(), Memory>
         ensures { OnOk result (self.new ≡ self.old ++ part ∷ []) }
     {
@@ -80,7 +80,8 @@ impl UnitParts {
         Ok(())
     }
 
-    /// Puts others in the places of the parts of these numbers, which are in order; one that is none goes.
+    /// Puts others in the places of the parts of these numbers, which are in order. Where an other is None, the part is
+    /// dropped.
     pub(crate) fn put(&mut self, others: Vec<(usize, Option<Part>)>)
         ensures { self.new ≡ put_from 0 others.items self.old }
     {

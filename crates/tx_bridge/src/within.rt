@@ -1,4 +1,4 @@
-// Where parts of a unit stand, inside which all modifications are.
+// Where the parts of a unit are, inside which all modifications are.
 ghost use Rattle.std.specs.Prelude.{◌≡◌, length, map, IfOk, IfSome, option_map};
 ghost use Rattle.std.specs.List.{All};
 ghost use Rattle.tx_mod.specs.Moves.{rest_behind};
@@ -13,7 +13,7 @@ use tx_origin::Base;
 use tx_tree::Path;
 use tx_walk::Part;
 
-// Where the part of this number, if there is one, stands in the document, where the unit is at this path.
+// The path in the document of the part of this number, if there is one, where the unit is at this path.
 fn path_of_part(
     alloc: Global,
     path: &Path,
@@ -28,7 +28,7 @@ fn path_of_part(
     }
 }
 
-/// Where the parts of these numbers stand in the document, where the unit is at this path.
+/// The paths in the document of the parts of these numbers, where the unit is at this path.
 pub(crate) fn paths_of_parts(
     alloc: Global,
     path: &Path,
@@ -55,7 +55,7 @@ fn path_along(alloc: Global, steps: &[u32]) -> Result<Path, Memory>
     Ok(path)
 }
 
-// What stands behind the front in the path, if the path begins with it.
+// The rest of the path after the front, if the path begins with it.
 pub(crate) fn rest_of(alloc: Global, front: &Path, path: &Path) -> Result<Option<Path>, Memory>
     ensures { IfOk result (λ r. r ≡ rest_behind front.now path.now) }
 {
@@ -65,7 +65,7 @@ pub(crate) fn rest_of(alloc: Global, front: &Path, path: &Path) -> Result<Option
     Ok(Some(path_along(alloc, &path.steps()[front.steps().len()..])?))
 }
 
-// The part of the unit at this path, which stands at the place in the document now, if it still is one.
+// The part of the unit at this path, which is at the place in the document now, if it is still in the unit.
 fn part_at(
     alloc: Global,
     path: &Path,
@@ -85,7 +85,7 @@ fn part_at(
     }
 }
 
-// So it is of the part of this number, if there is one.
+// The part of this number of the unit at this path, if there is one, and it is still in the unit.
 fn other_at(
     alloc: Global,
     path: &Path,
@@ -103,8 +103,8 @@ fn other_at(
     }
 }
 
-/// The parts of these numbers of the unit at this path, which stand at these places in the document now. None is for
-/// one that doesn't stay in the unit.
+/// The parts of these numbers of the unit at this path, which are at these places in the document now. None is for one
+/// that isn't in the unit any more.
 pub(crate) fn others_at(
     alloc: Global,
     path: &Path,

@@ -1,4 +1,4 @@
--- What a walk answered can be kept, whether it was done or over.
+-- What a walk returned can be cached, whether it was done or ran out of steps or levels.
 use Rattle.std.proofs.Common.{◌≡◌, List, [], ◌∷◌, map}
 use Rattle.std.specs.Prelude.{Option, Some, None}
 use Rattle.std.specs.List.{IsDistinct}

@@ -1,4 +1,4 @@
-// What tells shells of boxes.
+// What gives boxes their shells.
 ghost use Rattle.std.specs.Prelude.{◌≡◌, ◌∷◌, [], IfOk, codes};
 ghost use Rattle.tx_tree.specs.WideTree.{leaf, node, forest, children_of};
 ghost use Rattle.tx_walk.specs.Shells.{wide_layer, wide_shell};
@@ -160,7 +160,7 @@ impl Opener for Boxes {
 
 // A row of a table about what is opened.
 pub(crate) trait BoxRow {
-    // Whether what the row says is so, where this opener opens boxes. None for want of memory.
+    // Whether what the row says is true, where this opener opens boxes. None when memory runs out.
     fn is_told<L: Ledger>(
         &self,
         alloc: Global,

@@ -1,4 +1,4 @@
-// Buffers, modifications, and what is kept of units that are evaluated from nothing.
+// Buffers, modifications, and what is cached of units that are evaluated from nothing.
 ghost use Rattle.std.specs.Prelude.{◌≡◌, ◌≤◌, Some, [], length, IfSome};
 ghost use Rattle.tx_mod.specs.Followed.{changed_by_all};
 ghost use Rattle.tx_units.specs.Units.{units};

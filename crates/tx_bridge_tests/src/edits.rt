@@ -1,4 +1,4 @@
-// Edits, and the units that are reached behind them.
+// Edits, and the units that are reached after them.
 ghost use Rattle.std.specs.Prelude.{◌≡◌, ◌≤◌, [], Some, length, IfSome};
 ghost use Rattle.tx_mod.specs.Followed.{changed_by_all};
 ghost use Rattle.tx_bridge.specs.Carrying.{AllStand, StandsNow};
@@ -19,8 +19,8 @@ use tx_mod::Mod;
 use tx_samples::{Row, first_untrue};
 use tx_tree::Tree;
 
-// The number of a buffer, an edit of it, and a mark for each unit behind those of the base style: a cross where the
-// edit reached it, and else a point.
+// The number of a buffer, an edit of it, and a mark for each unit after those of the base style: a cross where the edit
+// reached it, and else a point.
 struct Change(u32, &'static str, &'static str);
 
 const EDITS: &[Series<Change>] = &[
@@ -65,7 +65,7 @@ const EDITS: &[Series<Change>] = &[
             Change(0, "assign /0/0 \"none\"", "xx.x"),
         ],
     ),
-    // what is over is never kept
+    // a unit that runs out of steps is never cached
     Series(
         "d (document (while \"true\" \"abcdefghij\") \"b\")",
         &[
@@ -170,7 +170,7 @@ const IN_PLACE: &[InPlaceRow] = &[
     ),
 ];
 
-// A buffer, an edit inside one paragraph, and the charges behind it.
+// A buffer, an edit inside one paragraph, and the charges after it.
 struct NestedRow(&'static str, &'static str, u64);
 
 const NESTED: &[NestedRow] = &[
@@ -190,7 +190,7 @@ const NESTED: &[NestedRow] = &[
         "assign /0/1 \"5\"",
         12,
     ),
-    // parts behind a new one move, and those of a part that is split are new
+    // parts after a new one move, and those of a part that is split are new
     NestedRow(
         "d (document (with \"color\" \"red\" (document \"long text\" \"more\")))",
         "insert /0/2 0 (tuple \"ab\")",
@@ -201,7 +201,7 @@ const NESTED: &[NestedRow] = &[
         "split /0/2 0 4",
         11,
     ),
-    // a name that a part sets for those behind it
+    // a name that a part sets for those after it
     NestedRow(
         "d (document (document (assign \"n\" \"1\") \"long text\" (value \"n\")))",
         "assign /0/0/1 \"2\"",
@@ -228,7 +228,7 @@ fn paragraph_in(bridges: &Bridges, changed: usize, after: &Tree) -> Option<Tree>
     after.at(unit.path.as_ref()?)?.share().ok()
 }
 
-// Carries what is kept in place, where this is the tree afterwards.
+// Carries what is cached in place, where this is the tree afterwards.
 fn carry_to<L: Ledger>(
     alloc: Global,
     bridges: &mut Bridges,
@@ -269,7 +269,7 @@ fn carry_in_place<L: Ledger>(
     Some(after)
 }
 
-// Changes the first buffer, and carries what is kept in place.
+// Changes the first buffer, and carries what is cached in place.
 pub(crate) fn change_in_place<L: Ledger>(
     alloc: Global,
     bridges: &mut Bridges,
@@ -288,7 +288,7 @@ pub(crate) fn change_in_place<L: Ledger>(
     Some(())
 }
 
-// What is kept behind an edit of the first buffer that is carried in place, and the charges.
+// What is cached after an edit of the first buffer that is carried in place, and the charges.
 pub(crate) fn edited_in_place<L: Ledger>(
     alloc: Global,
     buffers: &mut [Buffer],

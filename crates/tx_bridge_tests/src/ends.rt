@@ -1,4 +1,4 @@
-// What names have behind all units.
+// What names have after all units.
 ghost use Rattle.std.specs.Prelude.{◌≡◌, ◌≤◌, [], length, OnSome};
 ghost use Rattle.tx_bridge.specs.Entries.{units_of};
 ghost use Rattle.tx_units.specs.Units.{units};
@@ -31,7 +31,7 @@ struct EndRow {
     buffers: &'static str,
     call: Call,
     edit: Option<Way>,
-    // the call behind the edit
+    // the call after the edit
     then: Call,
     // names with the trees that they have, `;` between them
     has: Start,
@@ -40,7 +40,7 @@ struct EndRow {
 }
 
 const ENDS: &[EndRow] = &[
-    // before any refresh no name has anything, none of the base style either, nor behind an edit
+    // before any refresh no name has anything, none of the base style either, nor after an edit
     EndRow {
         buffers: "d (document (assign \"n\" \"1\"))",
         call: Call::Nothing,
@@ -93,7 +93,7 @@ const ENDS: &[EndRow] = &[
         has: "k \"v\";n \"1\";m \"2\";color \"black\"",
         lacks: "s",
     },
-    // a unit that is over sets nothing
+    // a unit that runs out of steps sets nothing
     EndRow {
         buffers: "d (document (assign \"n\" \"1\") (document (assign \"n\" \"2\") (while \"true\" \"abcdefghij\")))",
         call: Call::Refresh,
@@ -195,7 +195,7 @@ const ENDS: &[EndRow] = &[
         has: "m \"3\";k \"6\"",
         lacks: "n",
     },
-    // what it doesn't start from has gone
+    // names that it does not start from have nothing any more
     EndRow {
         buffers: "d (document (assign \"n\" \"1\") \"a\")",
         call: Call::RefreshFrom("n \"9\";m \"z\""),
@@ -319,7 +319,7 @@ fn ends_so<L: Ledger>(
     Some(lacks && has_all(env, &names))
 }
 
-// Whether they do behind what the row does.
+// Whether names have what the row says after the row's calls and edit.
 fn is_led<L: Ledger>(
     alloc: Global,
     bridges: &mut Bridges,
@@ -339,7 +339,7 @@ fn is_led<L: Ledger>(
     ends_so(alloc, bridges.end(), row, steps)
 }
 
-// Whether so it is of these buffers.
+// Whether they do, from the cache of these buffers.
 fn is_led_from<L: Ledger>(
     alloc: Global,
     buffers: &mut [Buffer],

@@ -13,8 +13,8 @@ use tx_mod::Mod;
 use tx_samples::{Row, first_untrue};
 use tx_tree::Path;
 
-// Modifications, `;` between them, a path that all of them are below, one behind it, and whether what stands there is
-// found to stay.
+// Modifications, `;` between them, a path that all of them are below, a path from there, and whether the place is found
+// to be unchanged.
 struct PlaceRow(&'static str, &'static str, &'static str, bool);
 
 const PLACES: &[PlaceRow] = &[
@@ -31,13 +31,13 @@ const PLACES: &[PlaceRow] = &[
     PlaceRow("remove /1/0 2 3", "/1", "/0/1", true),
     PlaceRow("remove /1/0 2 3", "/1", "/0/2", false),
     PlaceRow("remove /1/0 2 3", "/1", "/0/5", false),
-    // of the child that is split what stands before the cut
+    // of the child that is split, what is before the cut
     PlaceRow("split /1 2 3", "/1", "/1", true),
     PlaceRow("split /1 2 3", "/1", "/2", false),
     PlaceRow("split /1 2 3", "/1", "/2/2/0", true),
     PlaceRow("split /1 2 3", "/1", "/2/3", false),
     PlaceRow("split /1 2 3", "/1", "/3", false),
-    // of two children that are joined what stands in the first
+    // of two children that are joined, what is in the first
     PlaceRow("join /1 2", "/1", "/1", true),
     PlaceRow("join /1 2", "/1", "/2", false),
     PlaceRow("join /1 2", "/1", "/2/0", true),
@@ -72,7 +72,8 @@ fn are_within(base: &Path, mods: &[Mod]) -> bool
     mods.iter().all(|m| begins(base, m))
 }
 
-// Whether what stands at the path below the base is found to stay. None where a modification isn't below the base.
+// Whether the place at the path below the base is found to be unchanged. None where a modification isn't below the
+// base.
 fn is_kept(alloc: Global, mods: &[Mod], base: &str, below: &str) -> Option<bool> {
     let base = Path::parse(alloc, base.as_bytes()).ok()?;
     let below = Path::parse(alloc, below.as_bytes()).ok()?;

@@ -1,8 +1,8 @@
-//! Tests of kept evaluations. Of units that are evaluated by their parts, where an opener opens tags: that the whole is
-//! what evaluating it gives. Of refreshes with an opener: what they cost, also behind edits,
-//! and which parts they leave. Of edits: which units they reach and which parts they renew, also where parts go to
-//! other paragraphs, that outcomes are those from nothing, also behind a start and with a spare, and which places edits
-//! are found to leave as they are. And what names have behind all units.
+//! Tests of the cache of evaluations. Of units that are evaluated by their parts, where an opener opens tags: that the
+//! whole is what evaluating it gives. Of refreshes with an opener: what they cost, also after edits, and which parts
+//! they leave. Of edits: which units they reach and which parts they renew, also where parts move to other paragraphs;
+//! that outcomes are those from nothing, also after a start and with a spare; and which places edits are found to leave
+//! unchanged. And what names have after all units.
 #![tactic(auto)]
 
 #[cfg(test)]

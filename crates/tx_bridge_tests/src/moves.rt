@@ -1,4 +1,4 @@
-// Parts that go with the edit to where they stand then, also in other paragraphs.
+// Parts that are carried to where they are after an edit, also in other paragraphs.
 ghost use Rattle.std.specs.Prelude.{◌≡◌, ◌≤◌, [], length, OnSome};
 ghost use Rattle.tx_bridge.specs.Entries.{units_of};
 
@@ -14,9 +14,9 @@ use tx_doc::Buffer;
 use tx_samples::first_untrue;
 use tx_walk::Part;
 
-// One or two modifications of the document, `;` between them, and what the refresh behind them leaves: of each
+// One or two modifications of the document, `;` between them, and what the refresh after them leaves: of each
 // paragraph, a space between them, its parts, each with its path in the paragraph and a cross where nothing that fits
-// was kept of it, else a point; and the charges. Where this is empty, there is no refresh.
+// was cached of it, else a point; and the charges. Where this is empty, there is no refresh.
 struct Move(&'static str, &'static str, u64);
 
 // A text of n bytes is charged n + 1.
@@ -69,7 +69,7 @@ const MOVES: &[Series<Move>] = &[
             Move("assign-node / concat", "/x", 10),
         ],
     ),
-    // out of the document that they stand in
+    // out of the document that they are in
     Series(
         "d (document (with \"color\" \"red\" (document \"ab\" \"cd\")) \"e\")",
         &[
@@ -152,7 +152,7 @@ const MOVES: &[Series<Move>] = &[
             Move("split / 0 3", "/2x /2x", 4),
         ],
     ),
-    // what is kept of parts goes through all edits up to the next refresh
+    // what is cached of parts is carried through all edits up to the next refresh
     Series(
         "d (document (with \"a\" \"1\" \"x\") (with \"b\" \"2\" \"y\"))",
         &[Move("join / 0", "", 0), Move("split / 0 3", "/2. /2.", 0)],
@@ -176,7 +176,7 @@ const MOVES: &[Series<Move>] = &[
             Move("assign-node /0 document", "/0x/1x /.", 6),
         ],
     ),
-    // a body that is put in: what stood in the document is kept until it is taken out again, or till a refresh
+    // a body that is put in: what was in the document is cached until it is taken out again, or till a refresh
     Series(
         "d (document \"abc\" (document \"de\" \"f\"))",
         &[
@@ -236,7 +236,7 @@ fn parts_told(alloc: Global, bridges: &Bridges) -> Option<String> {
     None
 }
 
-// Evaluates what isn't kept. Whether its parts and the charges are these, and all outcomes those from nothing.
+// Evaluates what isn't cached. Whether its parts and the charges are these, and all outcomes those from nothing.
 fn is_brought_to<L: Ledger>(
     alloc: Global,
     bridges: &mut Bridges,

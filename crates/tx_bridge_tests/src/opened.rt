@@ -1,4 +1,4 @@
-// Refreshes with an opener, and with none behind one.
+// Refreshes with an opener, and with none after one.
 ghost use Rattle.std.specs.Prelude.{◌≡◌, ◌≤◌, [], length, IfSome, OnSome, option_copied};
 ghost use Rattle.tx_units.specs.Units.{units};
 ghost use Rattle.tx_bridge.specs.Entries.{units_of};
@@ -21,10 +21,10 @@ use tx_units::units;
 #[derive(Drop)]
 pub(crate) struct Refresh(pub Start, pub bool);
 
-// The paragraphs behind one that sets `box`, the refreshes of what is kept and of the spare, or None where they keep
-// nothing, a refresh, its charges, and what it leaves: of each paragraph, a space between them, a cross where it was
+// The paragraphs after one that sets `box`, the refreshes of the cache and of the spare, or None where nothing is
+// cached, a refresh, its charges, and what it leaves: of each paragraph, a space between them, a cross where it was
 // reached, else a point, and its parts, each with its path in the paragraph and a cross where nothing that fits was
-// kept of it, else a point.
+// cached of it, else a point.
 //
 // A text costs 1 and its bytes, and `(value "k")` costs 3 and 1 and the bytes of the text that `k` has. So the layers
 // of a box cost 4 for `"red"`, and 5 for `(value "m")` where `m` has a text of one byte.
@@ -38,7 +38,7 @@ struct OpenedRow(
 );
 
 const OPENED: &[OpenedRow] = &[
-    // first: the spare has the whole box as one part, and it holds what stands before
+    // first: the spare has the whole box as one part, and it holds what is before
     OpenedRow(
         "(box (document \"abc\" (value \"k\")))",
         None,
@@ -110,7 +110,7 @@ const OPENED: &[OpenedRow] = &[
         0,
         "./. ./0/0. ./.",
     ),
-    // the spare holds what is kept no more
+    // the spare holds what isn't cached any more
     OpenedRow(
         "(box (document \"abc\" (value \"k\")))",
         Some(Refresh("m \"7\";k \"ab\"", true)),
@@ -119,7 +119,7 @@ const OPENED: &[OpenedRow] = &[
         0,
         "./. x/0/0./0/1x",
     ),
-    // behind a refresh with no opener, and the other way round: the box costs 1, and within 3 for its tags, 6 and 2 for
+    // after a refresh with no opener, and the other way round: the box costs 1, and within 3 for its tags, 6 and 2 for
     // names, 4 and 5 for what they are set to, 4 and 2 as that is set, and 11 for the document
     OpenedRow(
         "(box (document \"abc\" (value \"k\")))",
@@ -137,7 +137,7 @@ const OPENED: &[OpenedRow] = &[
         38,
         "./. x/x",
     ),
-    // what has no shell has the same parts, and stays
+    // what has no shell has the same parts, and isn't reached
     OpenedRow(
         "(document \"abc\" (value \"k\"))",
         Some(Refresh("k \"ab\"", true)),

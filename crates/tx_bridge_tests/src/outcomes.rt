@@ -1,4 +1,4 @@
-// Trees that are evaluated, and what they come to.
+// Trees that are evaluated, and their outcomes.
 ghost use Rattle.std.specs.Prelude.{◌≤◌};
 
 use std::alloc::Global;
@@ -9,7 +9,7 @@ use tx_exec::{Outcome, eval};
 use tx_origin::{Ip, Tagged};
 use tx_tree::Tree;
 
-// What the whole tree comes to.
+// The outcome of the whole tree.
 pub(crate) fn evaluated<L: Ledger>(
     alloc: Global,
     t: &Tree,
@@ -43,7 +43,7 @@ pub(crate) fn same<L: Ledger>(
     }
 }
 
-// Whether so it is, or both are over.
+// Whether both are done, with one value, cost and height, or both run out of steps or levels.
 pub(crate) fn alike<L: Ledger>(
     alloc: Global,
     one: &Outcome,

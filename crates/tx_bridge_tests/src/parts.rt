@@ -12,7 +12,7 @@ use tx_samples::{Row, first_untrue};
 use tx_walk::Part;
 
 // A buffer, an edit inside one paragraph, and for each paragraph, a `/` between them, a mark for each part: a cross
-// where nothing that fits was kept of it, and else a point.
+// where nothing that fits was cached of it, and else a point.
 struct MarksRow(&'static str, &'static str, &'static str);
 
 const MARKS: &[MarksRow] = &[

@@ -15,7 +15,7 @@ use tx_mod::Mod;
 use tx_samples::Row;
 use tx_units::units;
 
-// An edit, and what it is to do to what is kept.
+// An edit, and what it is to do to the cache.
 pub(crate) trait Edit {
     // Changes the buffers. Whether that does what it is to do.
     fn holds<L: Ledger>(
@@ -34,7 +34,7 @@ pub(crate) trait Edit {
         ensures many { length buffers.new ≡ length buffers.old };
 }
 
-// Changes buffer k, and carries what is kept.
+// Changes buffer k, and carries what is cached.
 fn carry<L: Ledger>(
     alloc: Global,
     bridges: &mut Bridges,
@@ -103,7 +103,7 @@ fn all_hold<L: Ledger, E: Edit>(
 pub(crate) struct Series<E: 'static>(pub &'static str, pub &'static [E]);
 
 impl<E: Edit> Row for Series<E> {
-    // Whether each edit, from what is kept of the buffers from nothing, does what it is to do.
+    // Whether each edit does what it is to do, where the cache is at first that of the buffers from nothing.
     fn holds<L: Ledger>(&self, alloc: Global, steps: &mut Steps<L>) -> Option<bool> {
         let mut buffers = buffers_of(alloc, self.0, steps)?;
         let mut bridges = from_nothing(alloc, &buffers, steps)?;

@@ -1,4 +1,4 @@
-// Edits of paragraphs with shells, and refreshes with the same opener behind them.
+// Edits of paragraphs with shells, and refreshes with the same opener after them.
 ghost use Rattle.std.specs.Prelude.{◌≡◌, ◌≤◌, [], length, IfSome};
 ghost use Rattle.tx_bridge.specs.Entries.{units_of};
 ghost use Rattle.tx_units.specs.Units.{units};
@@ -15,17 +15,17 @@ use tx_base::Steps;
 use tx_bridge::Bridges;
 use tx_doc::Buffer;
 
-// The paragraphs behind one that sets `box`, the start of all refreshes, an edit behind the first one, the charges of
-// the second one, and what that leaves: of each paragraph, a space between them, a cross where it was reached, else a
-// point, and its parts, each with its path in the paragraph and a cross where nothing that fits was kept of it, else a
-// point.
+// The paragraphs after one that sets `box`, the start of all refreshes, an edit after the first one, the charges of the
+// second one, and what that leaves: of each paragraph, a space between them, a cross where it was reached, else a
+// point, and its parts, each with its path in the paragraph and a cross where nothing that fits was cached of it, else
+// a point.
 //
 // A text costs 1 and its bytes, and `(value "k")` costs 3 and 1 and the bytes of the text that `k` has. So the layers
 // of a box cost 4 for `"red"`, and 5 for `(value "m")` where `m` has a text of one byte.
 struct ShellEditRow(&'static str, Start, Way, u64, &'static str);
 
 const SHELL_EDITS: &[ShellEditRow] = &[
-    // what is kept of layers stays known where the one paragraph is changed in place
+    // what is cached of layers is still known where the one paragraph is changed in place
     ShellEditRow(
         "(box (document \"abc\" (value \"k\")))",
         "m \"7\";k \"ab\"",
@@ -94,7 +94,7 @@ const SHELL_EDITS: &[ShellEditRow] = &[
         2,
         "./. ./0/0./0/1. x/x",
     ),
-    // also where it goes with its paragraph to another number
+    // also where it is carried with its paragraph to another number
     ShellEditRow(
         "(box (document \"abc\" (value \"k\"))) \"de\"",
         "m \"7\";k \"ab\"",
@@ -134,7 +134,7 @@ fn is_left(alloc: Global, bridges: &Bridges, told: &str) -> bool {
     }
 }
 
-// Whether the edit, and a refresh behind it, cost what they are to cost, and leave what they are to leave.
+// Whether the edit, and a refresh after it, cost what they are to cost, and leave what they are to leave.
 fn is_led<L: Ledger>(
     alloc: Global,
     bridges: &mut Bridges,
@@ -154,7 +154,7 @@ fn is_led<L: Ledger>(
     Some(charge == row.3 && fresh && is_left(alloc, bridges, row.4))
 }
 
-// Whether so it is of these buffers.
+// Whether they do, from the cache of these buffers.
 fn is_led_from<L: Ledger>(
     alloc: Global,
     buffers: &mut [Buffer],

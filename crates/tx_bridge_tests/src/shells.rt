@@ -55,7 +55,7 @@ const SHELLS: &[ShellRow] = &[
         charge: 18,
         again: 9,
     },
-    // behind the box `n` has nothing, and the error costs 13 with 3 for its tag
+    // after the box `n` has nothing, and the error costs 13 with 3 for its tag
     ShellRow {
         tree: "(document (box (value \"n\")) (value \"n\"))",
         label: Some(BOX),
@@ -126,9 +126,9 @@ struct LentRow {
     tree: &'static str,
     m: Option<&'static str>,
     m_then: Option<&'static str>,
-    // how many trees of layers are kept of the first walk
+    // how many trees of layers are cached after the first walk
     layers: usize,
-    // what the second walk costs, where the first one's parts are kept, and its layers are kept or are spare
+    // what the second walk costs, where the first one's parts are cached, and its layers are cached or are spare
     charge: u64,
 }
 
@@ -141,7 +141,7 @@ const LENT: &[LentRow] = &[
         layers: 2,
         charge: 0,
     },
-    // each tree is kept once
+    // each tree is cached once
     LentRow {
         tree: "(box (box \"a\"))",
         m: Some("\"7\""),
@@ -256,7 +256,7 @@ fn env_of<L: Ledger>(
     Some(env)
 }
 
-// The tree by its parts, of which nothing is kept.
+// The tree by its parts, of which nothing is cached.
 fn by_parts<L: Ledger>(
     alloc: Global,
     t: &Tree,
@@ -289,7 +289,7 @@ fn by_parts<L: Ledger>(
     }
 }
 
-// The tree by its parts, of which these are kept, and of its layers these, and others are spare.
+// The tree by its parts, of which these are cached, and of its layers these, and others are spare.
 fn again<L: Ledger>(
     alloc: Global,
     t: &Tree,
@@ -322,7 +322,7 @@ fn again<L: Ledger>(
     .ok()
 }
 
-// What the whole tree comes to.
+// The outcome of the whole tree.
 fn whole<L: Ledger>(
     alloc: Global,
     t: &Tree,
@@ -347,7 +347,7 @@ fn is_whole<L: Ledger>(
     same(alloc, outcome, &whole, steps)
 }
 
-// Whether so it is, and there are as many parts as the row says, all renewed or none.
+// Whether the outcome is the whole tree's, and there are as many parts as the row says, all renewed or none.
 fn is_as_told<L: Ledger>(
     alloc: Global,
     row: &ShellRow,
@@ -379,7 +379,7 @@ fn is_held<L: Ledger>(
     Some(told && walked.charge == row.again)
 }
 
-// Whether the walk was as told and cost what the row says, and a second one costs what the layers do.
+// Whether the walk is as the row says, with its charge, and a second one costs what the layers do.
 fn is_charged<L: Ledger>(
     alloc: Global,
     row: &ShellRow,
@@ -397,7 +397,7 @@ fn is_charged<L: Ledger>(
     Some(told && held && walked.charge == row.charge)
 }
 
-// Whether it is so of a first walk.
+// Whether a first walk is as the row says, and a second one costs what the layers do.
 fn is_walked<L: Ledger>(
     alloc: Global,
     row: &ShellRow,
@@ -421,7 +421,7 @@ impl BoxRow for ShellRow {
     }
 }
 
-// Whether a second walk for which these are lent is done as told.
+// Whether a second walk for which these are lent is as the row says.
 fn is_cheap<L: Ledger>(
     alloc: Global,
     row: &LentRow,
@@ -451,7 +451,7 @@ fn is_cheap<L: Ledger>(
     Some(alike && walked.charge == row.charge)
 }
 
-// Whether what this walk answers serves a second one, as what is kept and as what is spare.
+// Whether what this walk returns serves a second one, as its cache and as its spare.
 fn is_lent<L: Ledger>(
     alloc: Global,
     row: &LentRow,
@@ -487,7 +487,7 @@ fn is_lent<L: Ledger>(
     Some(kept && spare && walked.layers.len() == row.layers)
 }
 
-// Whether so does what a first walk of this tree answers.
+// Whether what a first walk of this tree returns serves a second one, as its cache and as its spare.
 fn is_walked_twice<L: Ledger>(
     alloc: Global,
     row: &LentRow,

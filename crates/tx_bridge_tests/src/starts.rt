@@ -19,9 +19,9 @@ use tx_units::units;
 // Names and texts, `;` between them.
 pub(crate) type Start = &'static str;
 
-// Buffers, from which start what is kept and the spare were refreshed, or None where they keep nothing, the start of a
-// refresh, its charges, and for each unit behind those of the base style, a `/` between them, a mark for each part: a
-// cross where nothing that fits was kept of it, and else a point.
+// Buffers, from which start the cache and the spare were refreshed, or None where nothing is cached, the start of a
+// refresh, its charges, and for each unit after those of the base style, a `/` between them, a mark for each part: a
+// cross where nothing that fits was cached of it, and else a point.
 //
 // The name `n` costs 2, and `(value "n")` that, 1 and the size of what it gives: the text's length and 1, or 13 where
 // the name is unset.
@@ -60,7 +60,7 @@ const STARTS: &[StartRow] = &[
         0,
         "./.",
     ),
-    // the spare holds all, where nothing is kept, and where something else is
+    // the spare holds all, where nothing is cached, and where something else is
     StartRow(
         "d (document \"a\" (value \"n\"))",
         None,
@@ -86,7 +86,7 @@ const STARTS: &[StartRow] = &[
         5,
         "xx/x",
     ),
-    // what is kept holds one part, and the spare the other
+    // the cache holds one part, and the spare the other
     StartRow(
         "d (document (document (value \"n\") (value \"m\")))",
         Some("n \"1\";m \"1\""),
@@ -112,7 +112,7 @@ const STARTS: &[StartRow] = &[
         5,
         "/x",
     ),
-    // what is over is no spare
+    // a unit that runs out of steps is no spare
     StartRow(
         "d (document (while \"true\" \"abcdefghij\") \"b\")",
         Some(""),

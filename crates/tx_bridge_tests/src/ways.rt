@@ -1,4 +1,4 @@
-// The ways in which what is kept goes through an edit.
+// The ways in which what is cached is carried through an edit.
 ghost use Rattle.std.specs.Prelude.{◌≡◌, ◌≤◌, [], length};
 ghost use Rattle.tx_bridge.specs.Entries.{units_of};
 ghost use Rattle.tx_units.specs.Units.{units};
@@ -20,7 +20,7 @@ pub(crate) enum Way {
 }
 
 impl Way {
-    // Changes the buffers, and carries what is kept.
+    // Changes the buffers, and carries what is cached.
     pub(crate) fn go<L: Ledger>(
         &self,
         alloc: Global,

@@ -119,7 +119,7 @@ piece_fault w line first rest (Tree fault) short is_word are h =
     (short, refused w line first rest (Tree fault) is_word are (h (λ e. cc)))
 piece_fault w line first rest Memory short is_word are h = tt
 
--- ---- answers of calls
+-- ---- results of calls
 
 pub err_there : {A E : Type 0} (P : E → Type 0) (r : Result A E) (x : E) → result_err r ≡ Some x → IfErr r P → P x
 err_there P (Ok y) x e h = absurd cc

@@ -47,7 +47,7 @@ abbrev pub IsMisfit : List ArgumentKind → List ℕ → Option ℕ → Type 0
 IsMisfit arguments bytes None = AreLoose arguments bytes
 IsMisfit arguments bytes (Some n) = IsLongestFront (AreLoose arguments) bytes n × (AreLoose arguments bytes → ⊥)
 
--- the same of one piece
+-- whether the piece may stand for the argument, or the end of its longest front that begins such
 abbrev pub IsPieceMisfit : ArgumentKind → List ℕ → Option ℕ → Type 0
 IsPieceMisfit a piece None = IsLoosePiece a piece
 IsPieceMisfit a piece (Some n) = IsLongestFront (IsLoosePiece a) piece n × (IsLoosePiece a piece → ⊥)

@@ -75,7 +75,7 @@ pub enum CmdFault {
     #[error("no path, at byte {0}")]
     Path(usize),
     /// What stands for the tree or the text spells no tree within the limits: why, with places of the line.
-    /// `ReadFault::Memory` doesn't come here.
+    /// `ReadFault::Memory` doesn't occur here.
     #[error("no tree: {0}")]
     Tree(ReadFault),
     /// Memory ran out.

@@ -1,4 +1,4 @@
-// Where an unchanged subtree stands after a modification of which the inverse is known.
+// Where an unchanged subtree is after a modification of which the inverse is known.
 ghost use Rattle.std.specs.Prelude.{◌≡◌, IfOk, None, Some, MatchOption};
 ghost use Rattle.tx_mod.specs.Moves.{carried_by_insert, carried_in_split, carried_by_split};
 ghost use Rattle.tx_mod.specs.Moves.{carried_in_join, carried_by_join};
@@ -100,8 +100,8 @@ fn carried_at_by<'a>(m: &Mod, undo: &Mod, rest: &'a [u32]) -> Result<Option<Way<
     }
 }
 
-// Where the subtree at the path stands after the modification, which the other one undoes, or None where it is taken
-// out, changed or not a subtree any more.
+// Where the subtree at the path is after the modification, which the other one undoes, or None where it is taken out,
+// changed or not a subtree any more.
 pub(crate) fn carried_by(
     alloc: Global,
     m: &Mod,

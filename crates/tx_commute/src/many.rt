@@ -7,7 +7,7 @@ use crate::pairs::past_known;
 use std::alloc::Global;
 use tx_base::Memory;
 
-// What is left of the later modification, which is taken past all, of which the last one stands first, and of these.
+// What is left of the later modification, which is taken past all, of which the last one comes first, and of these.
 pub(crate) fn past_all(
     alloc: Global,
     known: Vec<Known>,

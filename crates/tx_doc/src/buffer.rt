@@ -31,7 +31,7 @@ impl Name {
         &self.bytes
     }
 
-    /// The same name, with bytes of its own.
+    /// A copy of the name, with bytes of its own.
     pub fn copy(&self, alloc: Global) -> Result<Name, Memory>
         ensures { IfOk result (λ name. name ≡ self.now) }
     {
@@ -69,7 +69,7 @@ pub fn number_of(buffers: &[Buffer], name: &[u8]) -> Option<usize>
         .position(|buffer| buffer.name.bytes() == name)
 }
 
-/// The same buffers in a list of their own: names are copied, and trees are shared.
+/// The buffers in a list of their own: names are copied, and trees are shared.
 pub fn share_buffers(alloc: Global, buffers: &[Buffer]) -> Result<Vec<Buffer>, Memory>
     ensures { IfOk result (λ all. all.items ≡ buffers.now) }
 {

@@ -129,7 +129,7 @@ fn node_of<L: Ledger>(
     }
 }
 
-// The node of this label and of all these trees without calls. None stands for them where they have none.
+// The node of this label and of all these trees without calls. `all` is None where they have none.
 fn node_without<L: Ledger>(
     alloc: Global,
     label: Label,

@@ -45,7 +45,7 @@ fn number_of_digits(digits: &[u8]) -> Option<u32>
     Some(value_of(digits))
 }
 
-// The bytes before the first point, and those after it. Without a point all bytes stand before it.
+// The bytes before the first point, and those after it. Without a point all bytes come before it.
 fn split_at_point(bytes: &[u8]) -> (&[u8], Option<&[u8]>)
     ensures pieces { slice_split is_point bytes.now
         ≡ result.0.now ∷ option_map_or (λ rest. slice_split is_point rest.now) result.1 [] }

@@ -14,8 +14,8 @@ use std::alloc::Global;
 use tx_mod::Mod;
 use tx_tree::{Path, Place, Text, Tree};
 
-/// Puts the text in at the cursor, which is a place of the tree, and stands behind the text afterwards. `NoText` comes
-/// exactly where the cursor is not in a text. `Memory` may come at any time.
+/// Puts the text in at the cursor, which is a place of the tree. The cursor is after the text afterwards. `NoText`
+/// comes exactly where the cursor is not in a text. `Memory` may come at any time.
 pub fn type_text(alloc: Global, t: &Tree, cursor: &Place, text: &Text) -> Result<Move, EditFault>
     requires { IsPlace t.now cursor.now.path cursor.now.offset }
     ensures done { IfOk result (λ m. typed t.now cursor.now text.now ≡ Ok m) }
@@ -159,7 +159,7 @@ fn split_in(alloc: Global, t: &Tree, path: &Path, offset: u32) -> Result<Move, E
     Err(EditFault::NotInParagraph)
 }
 
-/// Splits the paragraph at the cursor, which is a place of the tree, and stands at the start of the second paragraph
+/// Splits the paragraph at the cursor, which is a place of the tree. The cursor is at the start of the second paragraph
 /// afterwards. What is split is a text that is a child of a `document`, or a text in a `concat` that is a child of a
 /// `document`, and then that `concat`. `NoText` comes exactly where the cursor is not in a text, and `NotInParagraph`
 /// exactly in every other text. `Memory` may come at any time.

@@ -1,8 +1,8 @@
 //! What a key makes of a tree at the cursor: modifications and the cursor afterwards, or another cursor alone.
 //!
 //! What typing, backspace and enter make of a tree at a place is in `specs/Keys.antt`, and where the keys left and
-//! right lead among the stops of a view is in `specs/Stops.antt`. Nothing is changed here: what is answered is left to
-//! be applied, which a limit may still refuse.
+//! right lead among the stops of a view is in `specs/Stops.antt`. Nothing is changed here: what is returned is still to
+//! be applied, which a limit may refuse.
 #![tactic(auto)]
 
 mod faults;

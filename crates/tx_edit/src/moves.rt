@@ -13,7 +13,7 @@ use tx_tree::{Path, Place};
 pub enum Move {
     /// The modifications, at least one, and the cursor in the changed tree.
     Edit(ModList, Place),
-    /// The cursor; the tree stays.
+    /// The cursor; the tree is unchanged.
     Go(Place),
 }
 

@@ -38,7 +38,7 @@ fn a_buffer_keeps_its_name_and_tree(rt: HostRuntime) {
     assert_eq!(rt; bytes_of_none(rt.alloc()), 0);
 }
 
-// Names that stand in no command line, and the forms of the files that they are of.
+// Names that are in no command line, and the forms of the files that they are of.
 const FORMS: &[(&[u8], Form)] = &[
     (b"", Form::Tm),
     (b"a.scm ", Form::Tm),

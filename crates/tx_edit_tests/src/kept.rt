@@ -71,7 +71,7 @@ fn is_carried_along<L: Ledger>(
     Some(trees.len() == 1 && is_alone_at(alloc, map.entries(), place)?)
 }
 
-// A tree, a modification, a path, and where an entry at the path is afterwards, or `-` where it goes.
+// A tree, a modification, a path, and where an entry at the path is afterwards, or `-` where it is dropped.
 struct CarryRow(&'static str, &'static str, &'static str, &'static str);
 
 const CARRIED: &[CarryRow] = &[
@@ -240,7 +240,7 @@ fn is_set(alloc: Global) -> Option<bool> {
     Some(old == 1 && have_values(map.entries(), &[0, 9, 2]))
 }
 
-// Whether entries come in the place of none.
+// Whether entries replace none.
 fn is_replaced(alloc: Global) -> Option<bool> {
     let entries = entries_of(alloc, "/0 /1 /1/0")?;
     if !are_in_order(&entries) {

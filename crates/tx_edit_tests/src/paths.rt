@@ -30,7 +30,7 @@ fn grows_and_shrinks(alloc: Global) -> Option<bool> {
     Some(grown && shrinks(&mut path, &copy))
 }
 
-// Words that are no paths and stand in no command line, and where that shows.
+// Words that are no paths and are in no command line, and where that shows.
 const REFUSED: &[(&str, usize)] = &[("", 0), ("/ 1", 1), ("/1 ", 2)];
 
 fn first_unrefused(alloc: Global, rows: &[(&str, usize)]) -> Option<usize> {

@@ -26,7 +26,7 @@ const ROWS: &[(&str, &str)] = &[
     ("right /0/1 | /0/0 /0/1", "end"),
 ];
 
-// A place as it is printed: its path, and its offset behind that.
+// A place as it is printed: its path, and then its offset.
 fn place(alloc: Global, word: &str) -> Option<Place> {
     let mut path = Path::parse(alloc, word.as_bytes()).ok()?;
     let offset = path.pop()?;

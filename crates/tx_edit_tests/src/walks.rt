@@ -16,7 +16,7 @@ use tx_samples::{Row, first_untrue, tree_of};
 use tx_tree::{Text, Tree};
 use tx_walk::{Part, Walked, kept_law, walk, walked_law};
 
-// What the whole tree comes to.
+// The outcome of the whole tree.
 fn evaluated<L: Ledger>(
     alloc: Global,
     t: &Tree,
@@ -83,7 +83,7 @@ const WHOLES: &[WholeRow] = &[
     WholeRow("(document (while \"true\" \"ab\") (value \"n\"))", "1", 2),
 ];
 
-// A tree, and what the name `n` had where it was walked for what is kept and for the spare, and what it has now.
+// A tree, and what the name `n` had where it was walked for the cache and for the spare, and what it has now.
 struct SpareRow {
     tree: &'static str,
     kept: &'static str,
@@ -113,7 +113,7 @@ const SPARES: &[SpareRow] = &[
         charge: 0,
         renewed: &[false, false],
     },
-    // what is kept alone does
+    // the cache alone does
     SpareRow {
         tree: "(document (value \"n\") \"a\")",
         kept: "2",
@@ -158,7 +158,7 @@ fn env_of(alloc: Global, words: &str) -> Option<Env>
     Some(env)
 }
 
-// The tree by its parts, of which nothing is kept, where so many steps are allowed.
+// The tree by its parts, of which nothing is cached, where so many steps are allowed.
 fn by_parts<L: Ledger>(
     alloc: Global,
     t: &Tree,
@@ -180,7 +180,7 @@ fn by_parts<L: Ledger>(
     }
 }
 
-// The tree by its parts, of which these are kept, and these are spare.
+// The tree by its parts, of which these are cached, and these are spare.
 fn again<L: Ledger>(
     alloc: Global,
     t: &Tree,
@@ -233,13 +233,13 @@ fn is_exact<L: Ledger>(
     Some(enough && !suffice(alloc, t, words, fewer, steps)?)
 }
 
-// What the whole tree comes to.
+// The outcome of the whole tree.
 fn whole<L: Ledger>(alloc: Global, t: &Tree, words: &str, steps: &mut Steps<L>) -> Option<Outcome> {
     let mut env = env_of(alloc, words)?;
     evaluated(alloc, t, &mut env, ALLOWANCE, steps)
 }
 
-// Whether the walk came to the whole, held each part, and has as many as the row says.
+// Whether the walk has the outcome of the whole, held each part, and has as many parts as the row says.
 fn are_held<L: Ledger>(
     alloc: Global,
     row: &WholeRow,
@@ -273,7 +273,8 @@ fn is_held<L: Ledger>(
     are_held(alloc, row, &walked, whole, steps)
 }
 
-// Whether the walk came to the whole, with so many parts, all of them evaluated, and a second one holds them.
+// Whether the walk has the outcome of the whole, with so many parts, all of them evaluated, and a second one holds
+// them.
 fn is_whole<L: Ledger>(
     alloc: Global,
     row: &WholeRow,
@@ -292,7 +293,7 @@ fn is_whole<L: Ledger>(
     Some(alike && anew && held && walked.parts.len() == row.2)
 }
 
-// Whether so it is of a first walk.
+// Whether a first walk has it, with such parts, and a second one holds them.
 fn is_walked<L: Ledger>(
     alloc: Global,
     row: &WholeRow,
@@ -304,7 +305,7 @@ fn is_walked<L: Ledger>(
     is_whole(alloc, row, t, &walked, whole, steps)
 }
 
-// Whether so it is, for as many steps as evaluating the whole takes.
+// Whether the row holds of a first walk, and of one with just as many steps as evaluating the whole takes.
 fn is_told<L: Ledger>(
     alloc: Global,
     row: &WholeRow,
@@ -347,7 +348,7 @@ fn with_spare<L: Ledger>(
     again(alloc, t, row.now, kept, &spare.parts, steps)
 }
 
-// The tree by its parts, over what is kept and the spare.
+// The tree by its parts, over the cache and the spare.
 fn walked_over<L: Ledger>(
     alloc: Global,
     row: &SpareRow,
@@ -370,7 +371,7 @@ fn is_like_whole<L: Ledger>(
     same(alloc, outcome, &whole, steps)
 }
 
-// Whether the tree comes to what evaluating it gives, for this charge, and these parts are renewed.
+// Whether the outcome is what evaluating the tree gives, for this charge, and these parts are renewed.
 fn is_spared<L: Ledger>(
     alloc: Global,
     row: &SpareRow,

@@ -4,7 +4,7 @@ use std::str;
 use tx_base::Memory;
 use tx_words::{FileWords, Source, Words, WordsFault, faulty_because, read_words};
 
-// Words, each behind a bar, and what they ask for: the width, the height, and each file with its buffer's name.
+// Words, each after a bar, and what they ask for: the width, the height, and each file with its buffer's name.
 const ROWS: &[(&str, &str)] = &[
     ("", "faulty"),
     ("||a.tm", "80 24 a.tm:a"),
@@ -15,7 +15,7 @@ const ROWS: &[(&str, &str)] = &[
     ("|tmx|gen:1: 3", "faulty"),
 ];
 
-// The words, each behind a bar.
+// The words, each after a bar.
 fn words_in(alloc: Global, line: &str) -> Result<Vec<String>, AllocError> {
     let mut words = Vec::new(alloc);
     for (i, word) in line.split('|').enumerate() {
@@ -71,7 +71,7 @@ fn first_wrong(alloc: Global, rows: &[(&str, &str)]) -> Option<usize> {
         .position(|row| asks(alloc, row.0, row.1) != Ok(true))
 }
 
-// Words, each behind a bar, and why they are faulty, up to the end of a line, or `none`.
+// Words, each after a bar, and why they are faulty, up to the end of a line, or `none`.
 const REASONS: &[(&str, &str)] = &[
     ("|tmx|a.tm", "none"),
     ("|tmx|--height=5|a.tm|--width|20", "none"),

@@ -66,7 +66,7 @@ impl Env {
         self.scoped.get(name)
     }
 
-    /// Gives the name this value. For want of memory all stays.
+    /// Gives the name this value. When out of memory nothing changes.
     pub fn set(&mut self, name: Text, value: Tree) -> Result<(), Memory>
         ensures map { OnOk result (self.new.map ≡ maps.insert self.old.map name value) }
         ensures scopes { OnOk result (self.new.scopes ≡ self.old.scopes) }
@@ -75,7 +75,7 @@ impl Env {
         self.scoped.change(name, Some(value))
     }
 
-    /// The name is unset from then on. For want of memory all stays.
+    /// The name is unset from then on. When out of memory nothing changes.
     pub fn unset(&mut self, name: &Text) -> Result<(), Memory>
         ensures map { OnOk result (self.new.map ≡ maps.remove self.old.map name.now) }
         ensures scopes { OnOk result (self.new.scopes ≡ self.old.scopes) }
@@ -106,7 +106,7 @@ impl Env {
         self.scoped.leave(mark.number);
     }
 
-    /// Sets each name to its tree, in order. For want of memory all stays.
+    /// Sets each name to its tree, in order. When out of memory nothing changes.
     #[tactic(auto, using(crate::proofs::Overlays::overlay_rules, std::proofs::lemmas::Grind::common_steps))]
     pub fn overlay(&mut self, writes: &Writes) -> Result<(), Memory>
         ensures map { OnOk result (self.new.map ≡ overlaid self.old.map writes.now) }

@@ -59,7 +59,7 @@ impl Pairs {
         self.map.contains_key(name)
     }
 
-    /// Puts this at the name. For want of memory all stays.
+    /// Puts this at the name. When out of memory nothing changes.
     pub fn put(&mut self, name: Text, value: Option<Tree>) -> Result<(), Memory>
         ensures ok { OnOk result (self.new ≡ put name value self.old) }
         ensures err { OnErr result (self.new ≡ self.old) }

@@ -65,7 +65,7 @@ impl ScopedPairs {
         self.pairs.get(name)
     }
 
-    // Opens a scope, and answers its number.
+    // Opens a scope, and returns its number.
     #[tactic(auto, using(crate::proofs::Scopes::enter_rules, std::proofs::lemmas::Grind::common_steps))]
     pub(crate) fn enter(&mut self) -> u64
         requires { length self.old.scopes < 2 ^ 32 }
@@ -166,7 +166,7 @@ fn close_last(pasts: &mut Vec<Past>, number: u64)
     }
 }
 
-// The changes in scopes behind this number count as made in the scope of this number.
+// The changes in scopes after this number count as made in the scope of this number.
 #[tactic(auto, using(crate::proofs::Capping::capped_rules, std::proofs::lemmas::Grind::common_steps))]
 fn cap(pasts: &mut Vec<Past>, scope: u64)
     ensures { changes_of pasts.new.items ≡ capped_changes scope (changes_of pasts.old.items) }

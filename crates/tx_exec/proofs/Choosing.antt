@@ -144,7 +144,7 @@ module _ (k : ℕ) (below : Eval) (f : Frame) (label : List ℕ) (kids : List Ta
       let end : drop (2 * n) kids ≡ [] = grind (arith, common_steps, l) in
       sym there_is ∙ ap (λ us. chosen k below f label us e s) end
 
--- what a condition gave, where its answer is known
+-- what a condition gave, where its value is known
 pub found_as : (m : Ran (Option Bool)) (o p : Option Bool) (s : State) → m ≡ Done o s → o ≡ p → m ≡ Done p s
 found_as m o p s h q = h ∙ ap (λ a. Done a s) q
 

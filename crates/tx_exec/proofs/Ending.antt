@@ -144,7 +144,7 @@ sets_once ps ws e h = subst (λ us. IsDistinct bytes_eq (keys_of us)) (sym e) (d
 pub looks_once : (ps ls : Pairs) → ls ≡ ps → IsDistinct bytes_eq (keys_of ps) → IsDistinct bytes_eq (keys_of ls)
 looks_once ps ls e h = subst (λ us. IsDistinct bytes_eq (keys_of us)) (sym e) h
 
--- over exactly where every trace of the tree costs more or is higher
+-- `Over` exactly where every trace of the tree costs more or is higher
 pub over_iff : (o : Outcome) (t : TaggedTree) (e : Before) (c : ℕ) → wide_outcome o ≡ evaluated t e c
     → (o ≡ outcomes.Over) ↔ IsPast 400 c t e
 over_iff outcomes.Over t e c h = (λ _. over_past 400 c t e (sym h), λ _. refl)

@@ -29,7 +29,7 @@ pub nodes_push : (ss : List Setting) (s : Setting) → nodes_in (ss ++ s ∷ [])
 nodes_push [] s = omega arith
 nodes_push (t ∷ ss) s = omega (arith, nodes_push ss s)
 
--- the same of a setting whose parts are known
+-- one setting more, whose parts are known
 pub sets_more : (ss ts : List Setting) (s : Setting) (x : List ℕ) (v : WideValue) → ts ≡ ss ++ s ∷ [] → s.name ≡ x
     → s.value ≡ v → sets_of ts ≡ sets_of ss ++ (x, Some (plain v)) ∷ []
 sets_more ss ts s x v e n w =

@@ -13,7 +13,7 @@ use Rattle.tx_origin.proofs.Wholes.{plain_whole}
 use Rattle.tx_exec_form.specs.Rows.{tuple_of}
 use Rattle.tx_exec.proofs.Kids.{few_kids}
 
--- the tree as it stands
+-- the tree, unevaluated
 abbrev pub stands : TaggedTree → WideValue
 stands t = whole t.at t.tree
 

@@ -33,7 +33,7 @@ abbrev pub Counts : {X : Type 0} → Result X Stop → ℕ → ℕ → Type 0
 Counts (Ok x) a b = b ≡ a
 Counts (Err e) a b = CountsAtStop e a b
 
--- the same, but so many steps are counted later
+-- as `Counts`, where so many steps are counted later
 abbrev pub CountsBut : {X : Type 0} → ℕ → Result X Stop → ℕ → ℕ → Type 0
 CountsBut later (Ok x) a b = b + later ≡ a
 CountsBut later (Err e) a b = CountsAtStop e a b

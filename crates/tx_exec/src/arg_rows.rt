@@ -172,7 +172,7 @@ impl Progress {
         }
     }
 
-    // What was found: evaluated in the frame of the caller, or as it stands.
+    // What was found: evaluated in the frame of the caller, or unevaluated.
     #[cycle(ev)]
     #[tactic(auto, unfolding(tx_exec_form::specs::Rows::used))]
     fn used<L: Ledger>(
@@ -267,7 +267,7 @@ impl Progress {
         )
     }
 
-    // All arguments: evaluated in the frame of the caller, or as they stand.
+    // All arguments: evaluated in the frame of the caller, or unevaluated.
     #[cycle(ev)]
     #[tactic(auto, unfolding(tx_exec_form::specs::Rows::all_used))]
     fn all_used<L: Ledger>(
@@ -321,7 +321,7 @@ impl Progress {
         self.all_values(alloc, env, steps, tag, frame, levels)
     }
 
-    // The same, where there is a level.
+    // The tuple of the values of all arguments, where there is a level.
     #[cycle(ev)]
     #[tactic(auto, unfolding(tx_exec_form::specs::Rows::tuple_run))]
     fn all_values<L: Ledger>(

@@ -80,7 +80,7 @@ impl Progress {
         Ok(Value::leaf(alloc, words, None)?)
     }
 
-    /// The tree as it stands at this origin.
+    /// The tree, unevaluated, at this origin.
     #[tactic(auto, unfolding(tx_exec_form::specs::Rows::taken), using(crate::proofs::Kids::whole_rules))]
     pub(crate) fn taken<L: Ledger>(
         &mut self,
@@ -101,7 +101,7 @@ impl Progress {
         Ok(Value::whole(alloc, tree, at)?)
     }
 
-    /// The tree as it stands at this origin, of whose size one step is paid already.
+    /// The tree, unevaluated, at this origin. One step of its size is paid already.
     #[tactic(auto, using(crate::proofs::Kids::whole_rules))]
     pub(crate) fn itself<L: Ledger>(
         &mut self,

@@ -392,7 +392,7 @@ impl Progress {
         }
     }
 
-    // A tag that the environment gives a meaning, or that stays.
+    // A tag: a call where the environment has a meaning for its label, or else the same node of evaluated children.
     #[cycle(ev)]
     #[tactic(auto, unfolding(tx_exec_form::specs::Rows::tag_run))]
     fn tag<L: Ledger>(

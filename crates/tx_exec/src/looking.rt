@@ -105,7 +105,7 @@ impl Progress {
         }
     }
 
-    /// `quote`: the child as it stands.
+    /// `quote`: the child, unevaluated.
     #[tactic(auto, using(crate::proofs::Shapes::quote_rules, std::proofs::lemmas::Grind::common_steps))]
     pub(crate) fn quote<L: Ledger>(
         &mut self,

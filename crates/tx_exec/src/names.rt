@@ -1,4 +1,4 @@
-// What an evaluation noted of names, as it is answered.
+// What an evaluation noted of names, as it is returned.
 ghost use Rattle.std.specs.Prelude.{◌≡◌, IfOk};
 ghost use Rattle.std.specs.List.{IsDistinct};
 ghost use Rattle.std.specs.Map.{keys_of};

@@ -43,8 +43,8 @@ pub enum Outcome {
 
 /// The trace of the tree without a frame, where this many steps are allowed, at most 1,000,000, and 400 levels.
 ///
-/// `Over` is answered exactly where the cost passes the allowance or the height passes 400. The steps rise by the cost,
-/// or by the allowance where it runs out. The environment is as before after every answer.
+/// `Over` is returned exactly where the cost passes the allowance or the height passes 400. The steps rise by the cost,
+/// or by the allowance for `Over`. The environment is unchanged in every case.
 #[tactic(auto, using(crate::proofs::Ending::over_iff, std::proofs::lemmas::Grind::common_steps))]
 pub fn eval<L: Ledger>(
     alloc: Global,
@@ -64,7 +64,7 @@ pub fn eval<L: Ledger>(
     Ok(outcome)
 }
 
-// The same, in an environment that is only read.
+// The trace of the tree, in an environment that is only read.
 fn evaluate<L: Ledger>(
     alloc: Global,
     t: &Tagged,

@@ -66,7 +66,7 @@ fn tuple_of(alloc: Global, tag: &Tagged) -> Result<Value, Memory>
 }
 
 impl Progress {
-    /// The tuple of all children of the tag, as they stand.
+    /// The tuple of all children of the tag, unevaluated.
     #[tactic(auto, unfolding(tx_exec_form::specs::Rows::taken))]
     pub(crate) fn all_taken<L: Ledger>(
         &mut self,

@@ -113,7 +113,7 @@ pub(crate) fn trees_of<L: Ledger>(
 }
 
 impl Progress {
-    /// The same names with what they have.
+    /// These names with what the evaluation has set them to, or nothing.
     #[tactic(auto, using(crate::proofs::SettingLoops::kept_rules, std::proofs::lemmas::Grind::common_steps))]
     pub(crate) fn kept(&self, alloc: Global, names: &[Held]) -> Result<Vec<Held>, Memory>
         ensures { IfOk result (λ h. held_of h.items ≡ kept_of (held_of names.now) (map_of self.now.own)) }

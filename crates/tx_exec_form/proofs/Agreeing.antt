@@ -31,7 +31,7 @@ same_name q x h = names_alike q x (eq_is (slice_cmp nat_cmp q x) h)
 pub tied_self : (x : Name) → tied x x ≡ true
 tied_self x = ap is_eq (tied_itself nat_list_cmp_total x)
 
--- two maps that answer alike are equal
+-- two maps that have the same at each name are equal
 pub same : {X : Type 0} (m n : Map X) → ((q : Name) → get m q ≡ get n q) → m ≡ n
 same m n h = same_map nat_list_cmp_total names_alike m n h
 

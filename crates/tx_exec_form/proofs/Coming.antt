@@ -48,7 +48,7 @@ abbrev pub AllStand : TaggedTree → List TaggedTree → Type 0
 AllStand root [] = Unit {0}
 AllStand root (t ∷ ts) = Stands root t × AllStand root ts
 
--- so do all arguments of a frame and of those that called it
+-- each argument of a frame, and of its callers, is the subtree to which its origin leads
 abbrev pub FrameStands : TaggedTree → Frame → Type 0
 FrameStands root top = Unit {0}
 FrameStands root (call parameters arguments caller) = AllStand root arguments × FrameStands root caller

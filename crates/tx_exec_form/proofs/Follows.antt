@@ -278,7 +278,7 @@ module _ (k k' : ℕ) where
 
   module _ (below below' : Eval) (belows : (t : TaggedTree) (f : Frame) →
       Follows k k' (below t f) (below' t f)) (f : Frame) where
-    eachs : (ts : List TaggedTree) (vs : List WideValue) → Follows k k' (each below f vs ts) (each below' f vs ts)
+    pub eachs : (ts : List TaggedTree) (vs : List WideValue) → Follows k k' (each below f vs ts) (each below' f vs ts)
     eachs [] vs = gives k k' vs
     eachs (t ∷ ts) vs = bind k k' (belows t f) (λ v. eachs ts (vs ++ v ∷ []))
 

@@ -2,5 +2,8 @@ pub mod Agreeing
 pub mod Follows
 pub mod Small
 pub mod Coming
+pub mod Again
+pub mod Framing
+pub mod RunFraming
 pub mod Tracing
 pub mod LabelTest

@@ -298,7 +298,8 @@ module _ (j : ℕ) where
     }
 
     module _ (f : Frame) where
-      eachs : (ts : List TaggedTree) (vs : List WideValue) (l l' i i' : ℕ) → total_size (plains (vals vs)) + l ≤ l' →
+      pub eachs : (ts : List TaggedTree) (vs : List WideValue) (l l' i i' : ℕ) →
+          total_size (plains (vals vs)) + l ≤ l' →
           deepest (plains (vals vs)) + i ≤ j → i ≤ i' → Leads (At l i) (each below f vs ts) (FitAll l' j i')
       eachs [] vs l l' i i' a b c = record {
         runs =

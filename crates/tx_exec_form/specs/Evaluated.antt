@@ -30,8 +30,8 @@ abbrev pub traced : ℕ → ℕ → Ran WideValue → Option WideTrace
 traced k c Over = None
 traced k c (Done v s) = Some (trace_of k c v s)
 
--- The trace of the tree without a frame, with k levels and c steps, where names have this before. None where it is
--- over.
+-- The trace of the tree without a frame, with k levels and c steps, where names have this before. None where levels or
+-- steps run out.
 unfoldable pub evaluated_in : ℕ → ℕ → TaggedTree → Before → Option WideTrace
 evaluated_in k c t e = traced k c (ex k t top e (start k c))
 

@@ -6,3 +6,4 @@ pub mod Words
 pub mod Rows
 pub mod Evaluated
 pub mod Laws
+pub mod Framed

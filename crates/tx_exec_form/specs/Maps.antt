@@ -1,4 +1,4 @@
--- Finite maps from names. They are canonical: two that answer alike are equal.
+-- Finite maps from names. They are canonical: two that have the same at each name are equal.
 use Rattle.std.specs.Prelude.{Option, if◌then◌else◌}
 use Rattle.std.specs.Ordering.{nat_cmp}
 use Rattle.std.specs.Cmp.Lexicographic.{slice_cmp}

@@ -1,5 +1,6 @@
--- The table of evaluation, a row a label. `k` is the number of levels, its own counted, `below` evaluates with one
--- level less, and so does `below_all` the tuple of trees with origins of their own. `f` is the frame.
+-- The table of evaluation: a row for each label. `k` is the number of levels, with the row's own. `below` evaluates a
+-- tree with one level less. `below_all` evaluates, with one level less, the tuple of trees that have origins of their
+-- own. `f` is the frame.
 use Rattle.std.specs.Prelude.{ℕ, zero, suc, ◌+◌, ◌-◌, Bool, true, false, ◌&&◌, nat_le, if◌then◌else◌, List, [], ◌∷◌}
 use Rattle.std.specs.Prelude.{◌++◌, length, map, ℤ, Option, Some, None, option_and_then, codes}
 use Rattle.std.specs.Str.{bytes_eq}
@@ -204,7 +205,7 @@ xmacro k label t other = wrong k (codes "bad") label
 
 -- ---- arg and quote-arg
 
--- what was found is evaluated in the frame of the caller, or taken as it stands
+-- what was found is evaluated in the frame of the caller, or taken unevaluated
 unfoldable pub used : Taking → ℕ → Eval → Frame → TaggedTree → Run WideValue
 used takings.Evaluated k below f t = below t (caller_of f)
 used takings.Quoted k below f t = taken k (whole t.at t.tree)
@@ -223,7 +224,7 @@ arg_part taking k below f label x t numbers = do
   vs ← each below f [] numbers
   numbered taking k below f label x t (integers_of vs)
 
--- the tuple of all arguments, which has no origin, while they have theirs
+-- the tuple of all arguments, which has no origin itself
 abbrev pub tuple_of : List TaggedTree → WideValue
 tuple_of ts = made (codes "tuple") (vals (map (λ t. whole t.at t.tree) ts)) None
 
@@ -237,7 +238,7 @@ all_numbered taking k below below_all f label x ts (Some []) = all_used taking k
 all_numbered taking k below below_all f label x ts (Some (n ∷ ns)) = part_used taking k below f x (part_among ts n ns)
 all_numbered taking k below below_all f label x ts None = wrong k (codes "bad") label
 
--- the same for the parameter of an `xmacro`
+-- as `arg_part`, for the parameter of an `xmacro`
 unfoldable pub all_part : Taking → ℕ → Eval → EvalAll → Frame → List ℕ → Name → List TaggedTree → List TaggedTree →
     Run WideValue
 all_part taking k below below_all f label x ts numbers = do
@@ -405,7 +406,7 @@ abbrev pub is_xmacro : WideTree → Bool
 is_xmacro (leaf t) = false
 is_xmacro (node l ts) = bytes_eq l (codes "xmacro")
 
--- the same, where the one parameter has all arguments
+-- the body of an `xmacro`, without origins, where its one parameter has all arguments
 abbrev pub applied_all : ℕ → Eval → List ℕ → List TaggedTree → Frame → Option (Name × WideTree) → Run WideValue
 applied_all k below label kids f None = wrong k (codes "bad") label
 applied_all k below label kids f (Some m) = below (record { tree = m.1; at = None }) (call_all m.0 kids f)

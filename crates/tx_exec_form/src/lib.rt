@@ -1,12 +1,12 @@
 //! Evaluation of trees: its definition, and its laws.
 //!
-//! `evaluated` of `specs/Evaluated.antt` is what a tree comes to in an environment, and its table is `specs/Rows.antt`.
+//! `evaluated` of `specs/Evaluated.antt` is what a tree evaluates to in an environment. `specs/Rows.antt` is its table.
 #![tactic(auto)]
 
 mod laws;
 mod rows;
 
-pub use laws::{label_law, limit_laws, origin_law, size_law, trace_laws};
+pub use laws::{frame_laws, label_law, limit_laws, origin_law, run_laws, size_law, trace_laws};
 pub use rows::{Row, Taking, Unary, row_for};
 
 /// How many levels an evaluation has.

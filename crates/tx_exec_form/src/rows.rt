@@ -61,7 +61,7 @@ pub enum Unary {
 pub enum Taking {
     /// It is evaluated in the frame of the caller.
     Evaluated,
-    /// It is taken as it stands.
+    /// It is taken unevaluated.
     Quoted,
 }
 

@@ -50,7 +50,7 @@ impl<E: Drop> History<E> {
         })
     }
 
-    /// Puts the entry of a new edit behind the past, drops the oldest where there are more than the depth, and
+    /// Puts the entry of a new edit at the end of the past, drops the oldest where there are more than the depth, and
     /// empties the future.
     pub fn done(&mut self, entry: E)
         ensures past { self.new.past ≡ newest self.old.depth (self.old.past ++ entry ∷ []) }
@@ -116,8 +116,8 @@ impl<E: Drop> History<E> {
         self.past.nth_back(k as usize - 1)
     }
 
-    /// Puts the entry of an edit that was undone behind the future. Both lists together have fewer entries than the
-    /// depth.
+    /// Puts the entry of an edit that was undone at the end of the future. Both lists together have fewer entries than
+    /// the depth.
     pub fn undone(&mut self, entry: E)
         requires { length self.old.past + length self.old.future < self.old.depth }
         ensures future { self.new.future ≡ self.old.future ++ entry ∷ [] }
@@ -127,8 +127,8 @@ impl<E: Drop> History<E> {
         self.future.push_back(entry);
     }
 
-    /// Puts the entry of an edit that was made again behind the past. Both lists together have fewer entries than the
-    /// depth.
+    /// Puts the entry of an edit that was made again at the end of the past. Both lists together have fewer entries
+    /// than the depth.
     pub fn redone(&mut self, entry: E)
         requires { length self.old.past + length self.old.future < self.old.depth }
         ensures past { self.new.past ≡ self.old.past ++ entry ∷ [] }
@@ -138,7 +138,7 @@ impl<E: Drop> History<E> {
         self.past.push_back(entry);
     }
 
-    /// Puts back an entry that was taken and could not be applied: behind the past, or behind the future where
+    /// Puts back an entry that was taken and could not be applied: at the end of the past, or of the future where
     /// `past` is false. Both lists together have fewer entries than the depth.
     pub fn keep(&mut self, entry: E, past: bool)
         requires { length self.old.past + length self.old.future < self.old.depth }

@@ -108,7 +108,7 @@ impl Attrs {
         })
     }
 
-    /// The same attributes. They share their texts.
+    /// A copy of the attributes. They share their texts.
     pub fn copy(&self) -> Result<Attrs, Memory>
         ensures { IfOk result (λ a. a ≡ self.now) }
     {

@@ -127,7 +127,7 @@ impl Look {
         })
     }
 
-    /// The same look, shared.
+    /// A share of the look.
     pub fn share(&self) -> Result<Look, Memory>
         ensures { IfOk result (λ l. l ≡ self.now) }
     {
@@ -166,7 +166,7 @@ impl Look {
 }
 
 impl Item {
-    /// The same item.
+    /// A copy of the item.
     pub fn copy(&self) -> Result<Item, Memory>
         ensures { IfOk result (λ i. i ≡ self.now) }
     {
@@ -183,7 +183,7 @@ impl Item {
 }
 
 impl Drawn {
-    /// The same cluster with the same look.
+    /// A copy of the cluster, with its look.
     pub fn copy(&self) -> Result<Drawn, Memory>
         ensures { IfOk result (λ d. d ≡ self.now) }
     {
@@ -216,7 +216,7 @@ impl Items {
         })
     }
 
-    /// The same items, shared.
+    /// A share of the items.
     pub fn share(&self) -> Result<Items, Memory>
         ensures { IfOk result (λ i. i ≡ self.now) }
     {
@@ -241,7 +241,7 @@ impl Paragraph {
         Paragraph::new(alloc, Vec::new(alloc), attrs)
     }
 
-    /// The same paragraph, which shares its items.
+    /// A share of the paragraph, which shares its items.
     pub fn share(&self) -> Result<Paragraph, Memory>
         ensures { IfOk result (λ p. p ≡ self.now) }
     {

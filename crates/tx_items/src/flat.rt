@@ -1,4 +1,4 @@
-// Which values show in a line that nothing in them ends, told before anything is shown.
+// Which values show in a line that nothing in them ends, found before anything is shown.
 ghost use Rattle.std.specs.Prelude.{◌≡◌, IfOk};
 ghost use Rattle.tx_origin.specs.Values.{vals, value_parts};
 ghost use Rattle.tx_items.specs.Flat.{is_flat, all_flat, last_flat, flat_space, shows_table};

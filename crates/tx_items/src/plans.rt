@@ -1,4 +1,4 @@
-// Which parts of a value show as lists of paragraphs, told before anything is shown.
+// Which parts of a value show as lists of paragraphs, found before anything is shown.
 ghost use Rattle.std.specs.Prelude.{◌≡◌, not, get_or, IfOk};
 ghost use Rattle.std.specs.List.{list_any};
 ghost use Rattle.tx_tree.specs.WideTree.{forest, is_leaf};

@@ -569,7 +569,7 @@ impl Showing {
         Ok(())
     }
 
-    // Ends what a part of a unit shows, as a list or in a line. An empty list stays empty.
+    // Ends what a part of a unit shows, as a list or in a line. An empty list remains empty.
     pub(crate) fn finish_part(&mut self, alloc: Global, is_list: bool) -> Result<(), Memory>
         ensures { OnOk result (FinishesPart is_list (state_of self.old) (state_of self.new)) }
     {

@@ -1,4 +1,4 @@
-//! Values kept by paths of a document: one map in the order of the document, which an edit carries in place.
+//! Values stored by paths of a document: one map in the order of the document, which an edit carries in place.
 #![tactic(auto)]
 
 mod carrying;

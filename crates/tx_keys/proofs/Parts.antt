@@ -17,7 +17,7 @@ bytes_both (x ∷ xs) ys begun =
     let last = bytes_keys rest.0 ys in
     rw (bytes_both xs ys one.0) (ap (λ keys. (last.0, keys)) (sym (append_assoc one.1 rest.1 last.1)))
 
--- keys before those of a read stay before them at its end
+-- keys before those of a read are still before them at its end
 ended_front : (begun : Begun) (keys more : List Key)
     → ended_read begun (keys ++ more) ≡ ((ended_read begun more).0, keys ++ (ended_read begun more).1)
 ended_front AnEscape keys more = ap (λ all. (LoneEscape, all)) (append_assoc keys more (Escape ∷ []))

@@ -33,7 +33,7 @@ numbered_key n =
     else if n == 5 then Some PageUp else if n == 6 then Some PageDown else if n == 11 then Some F1
     else if n == 200 then Some PasteBegins else if n == 201 then Some PasteEnds else None
 
--- the same key with Ctrl
+-- the key with Ctrl
 abbrev pub ctrl_key : Key → Key
 ctrl_key Home = CtrlHome
 ctrl_key End = CtrlEnd

@@ -100,7 +100,7 @@ pub fn read_keys(begun: Begun, read: &[u8], keys: &mut Vec<Key>) -> Result<Begun
 }
 
 /// What the definition of keys means. What xterm and a vt220 send is their keys; a text in UTF-8 is its characters; the
-/// answers of the terminal are theirs; and where a read ends matters only after an escape.
+/// replies of the terminal are theirs; and where a read ends matters only after an escape.
 pub fn key_laws()
     ensures rows { AllByRecursion IsKeyRow key_rows }
     ensures texts { (cs : List ℕ) → AllByRecursion IsTypable cs

@@ -3,7 +3,7 @@ ghost use Rattle.std.specs.Prelude.{◌≡◌};
 ghost use Rattle.tx_keys.specs.Keys.{bracket_byte, char_byte, char_key, cursor_key, first_byte, held_key};
 ghost use Rattle.tx_keys.specs.Keys.{later_byte, number_byte, numbered_key, sequence_key, with_ctrl};
 
-/// A key, a press of the mouse, or an answer of the terminal.
+/// A key, a press of the mouse, or a reply of the terminal.
 #[derive(Clone, Copy, Debug, PartialEq, Eq)]
 pub enum Key {
     /// A character by its code point, no control.
@@ -49,7 +49,7 @@ pub enum Begun {
     SingleShift,
     /// `ESC [`, which is called CSI.
     Bracket,
-    /// CSI with numbers: whether `<` stands before them, and the last three, 0 where there are less.
+    /// CSI with numbers: whether `<` comes before them, and the last three, 0 where there are less.
     Numbers(bool, u32, u32, u32),
     /// CSI and something that no key has.
     Foreign,
@@ -102,7 +102,7 @@ fn numbered_key(number: u32) -> Option<Key>
     }
 }
 
-// The same key with Ctrl.
+// The key with Ctrl.
 fn with_ctrl(key: Option<Key>) -> Option<Key>
     ensures { result ≡ with_ctrl key }
 {

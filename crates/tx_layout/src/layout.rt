@@ -56,7 +56,7 @@ impl LineItems {
         &self.all.all()[self.from as usize..self.to as usize]
     }
 
-    // The same items, shared.
+    // A share of the items.
     fn share(&self) -> Result<LineItems, Memory>
         ensures { IfOk result (λ l. l ≡ self.now) }
     {
@@ -80,7 +80,7 @@ pub struct Line {
 }
 
 impl Line {
-    /// The same line, which shares its items.
+    /// A share of the line, which shares its items.
     pub fn share(&self) -> Result<Line, Memory>
         ensures { IfOk result (λ l. l ≡ self.now) }
     {
@@ -92,7 +92,7 @@ impl Line {
     }
 }
 
-// The item as it stands on a line of a paragraph with this least width.
+// The item as it is shown on a line of a paragraph with this least width.
 fn item_shown(item: &Item, least: u32) -> Result<Item, Memory>
     ensures { IfOk result (λ i. i ≡ capped_item least item.now) }
 {
@@ -134,7 +134,7 @@ fn are_kept(items: &[Item], least: u32) -> bool
     true
 }
 
-// The items as they stand on lines, with gaps cut.
+// The items as they are shown on lines, with gaps cut.
 fn items_cut(alloc: Global, items: &[Item], least: u32) -> Result<Items, Memory>
     ensures { IfOk result (λ shown. shown ≡ map (capped_item least) items.now) }
 {
@@ -145,7 +145,7 @@ fn items_cut(alloc: Global, items: &[Item], least: u32) -> Result<Items, Memory>
     Items::new(alloc, shown)
 }
 
-// The items as they stand on lines.
+// The items as they are shown on lines.
 fn items_shown(alloc: Global, items: &Items, least: u32) -> Result<Items, Memory>
     ensures { IfOk result (λ shown. shown ≡ map (capped_item least) items.now) }
 {

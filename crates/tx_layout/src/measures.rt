@@ -81,9 +81,9 @@ fn side_of(mode: &[u8]) -> Side
 }
 
 /// The measures of a paragraph's lines on a page of this width, from 20 to 500 cells. Margins below 0 count as 0, and
-/// so do both margins where they leave less than 10 cells. The first line's indent is that of the others and
-/// `par-first`, cut so that it isn't below 0 and leaves 10 cells. Every mode but `center`, `right`
-/// and `justify` is at the left.
+/// both margins count as 0 where they leave less than 10 cells. The first line's indent is that of the others and
+/// `par-first`, cut so that it isn't below 0 and leaves 10 cells. Every mode but `center`, `right` and `justify` is at
+/// the left.
 pub fn line_frame(paragraph: &Paragraph, width: u32) -> Frame
     requires least { 20 ≤ width }
     requires most { width ≤ 500 }

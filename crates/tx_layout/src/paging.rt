@@ -20,7 +20,7 @@ fn is_last(line: &Line, unmarked: bool) -> bool
     !unmarked && line.page_end
 }
 
-/// The pages of lines that are told one after the other, in as many slices as there are. No line is copied or kept.
+/// The pages of lines that are given in order, in as many slices as there are. No line is copied or stored.
 #[derive(Drop)]
 pub struct Paginator {
     height: u32,
@@ -28,7 +28,7 @@ pub struct Paginator {
     ended: Vec<Cut>,
     // the number of the first line after these
     from: u32,
-    // how many lines were told
+    // how many lines were given
     count: u32,
 }
 
@@ -47,7 +47,7 @@ impl Paginator {
         }
     }
 
-    // Tells one line more.
+    // Takes one line more.
     fn add_line(&mut self, line: &Line, unmarked: bool) -> Result<(), Memory>
         requires few { lines_told self.old + 1 < 2 ^ 32 }
         requires unmarked { unmarked ≡ true → Unmarked line.now }
@@ -72,7 +72,7 @@ impl Paginator {
         Ok(())
     }
 
-    // Tells lines, and where memory runs out some of them.
+    // Takes lines, and where memory runs out some of them.
     fn add_each(&mut self, lines: &[Line], unmarked: bool) -> Result<(), Memory>
         requires few { lines_told self.old + length lines.now < 2 ^ 32 }
         requires unmarked { unmarked ≡ true → All Unmarked lines.now }
@@ -87,7 +87,7 @@ impl Paginator {
         Ok(())
     }
 
-    // Tells lines, or where memory runs out none of them.
+    // Takes lines, or where memory runs out none of them.
     fn add_all(&mut self, lines: &[Line], unmarked: bool) -> Result<(), Memory>
         requires few { lines_told self.old + length lines.now < 2 ^ 32 }
         requires unmarked { unmarked ≡ true → All Unmarked lines.now }
@@ -110,8 +110,8 @@ impl Paginator {
         }
     }
 
-    /// Tells lines that are after those told so far. There are fewer than 2^32 with these. The one error is want of
-    /// memory, and then those told before are told.
+    /// Takes lines that are after those given so far. There are fewer than 2^32 with these. The one error is `Memory`,
+    /// and then just those given before are given.
     pub fn add(&mut self, lines: &[Line]) -> Result<(), Memory>
         requires few { lines_told self.old + length lines.now < 2 ^ 32 }
         ensures told { OnOk result ((before : List Line) (height : ℕ) → HasTold before height self.old
@@ -122,7 +122,7 @@ impl Paginator {
         self.add_all(lines, false)
     }
 
-    /// The same, of lines none of which is the last of its page. They are counted, and not looked at.
+    /// Takes lines none of which is the last of its page. They are counted, and not looked at.
     pub fn add_unmarked(&mut self, lines: &[Line]) -> Result<(), Memory>
         requires few { lines_told self.old + length lines.now < 2 ^ 32 }
         requires unmarked { All Unmarked lines.now }
@@ -134,7 +134,7 @@ impl Paginator {
         self.add_all(lines, true)
     }
 
-    /// The pages of all lines that were told, by the lines' places. The one error is `Memory`.
+    /// The pages of all lines that were given, by the lines' places. The one error is `Memory`.
     pub fn finish(self) -> Result<Vec<Cut>, Memory>
         ensures { IfOk result (λ pages. (lines : List Line) (height : ℕ) → HasTold lines height self
             → PagesFrom lines height 0 pages.items) }

@@ -5,6 +5,6 @@
 pub struct Cut {
     /// The first place.
     pub from: u32,
-    /// The place behind the last one.
+    /// The place after the last one.
     pub to: u32,
 }

@@ -9,22 +9,21 @@ use crate::cut::Cut;
 use std::alloc::Global;
 use tx_base::Memory;
 
-/// What stands on a line undivided, as a word or a part of one.
+/// What is on a line undivided, as a word or a part of one.
 #[derive(Clone, Copy, Debug, PartialEq, Eq)]
 pub struct Piece {
-    /// The spaces that part it from the piece before it, where both stand on one line: a cell each.
+    /// The spaces that part it from the piece before it, where both are on one line: a cell each.
     pub before: u32,
     /// Its own cells.
     pub cells: u32,
 }
 
-/// The lines of the pieces, first-fit: a piece stands on the line of the piece before it where it and the
-/// spaces between the two still fit, and else begins the next line, and its spaces stand on no line. The
-/// first line alone has the width `first`. Each cut is the places of one line's pieces, and no piece gives
-/// no line.
+/// The lines of the pieces, first-fit: a piece is on the line of the piece before it where it and the spaces between
+/// the two still fit. Else it begins the next line, and its spaces are on no line. The first line alone has the width
+/// `first`. Each cut is the places of one line's pieces, and no piece gives no line.
 ///
-/// There are fewer than 2^32 pieces, none wider than the narrower width, and both widths are 10 to 500
-/// cells. The one error is want of memory.
+/// There are fewer than 2^32 pieces, none wider than the narrower width, and both widths are 10 to 500 cells. The one
+/// error is `Memory`.
 pub fn fill(alloc: Global, pieces: &[Piece], first: u32, later: u32) -> Result<Vec<Cut>, Memory>
     requires few_pieces { length pieces.now < 2 ^ 32 }
     requires first_width { IsWidth first }
@@ -79,7 +78,7 @@ pub fn some_filling()
         (lines : List Cut) × IsFirstFit pieces first later lines }
 {}
 
-/// A law: what stands on lines that are first-fit is, line after line, the pieces themselves.
+/// A law: what is on lines that are first-fit is, line after line, the pieces themselves.
 pub fn nothing_lost()
     ensures { (pieces : List Piece) (first later : ℕ) (lines : List Cut) →
         IsFirstFit pieces first later lines →

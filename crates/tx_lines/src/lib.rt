@@ -1,4 +1,4 @@
-//! Lines of pieces that stand side by side, filled first-fit.
+//! Lines of pieces that are side by side, filled first-fit.
 //!
 //! [`fill`] cuts a list of pieces into lines. Which cuts these are is `IsFirstFit` of
 //! `specs/FirstFit.antt`: it speaks of finished lines and their widths, and not of how lines are found. By

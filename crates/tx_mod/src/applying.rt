@@ -62,8 +62,8 @@ fn applied_at<L: Ledger>(
 }
 
 #[tactic(auto, using(crate::proofs::Whole::no_change, std::proofs::lemmas::Grind::common_steps))]
-/// The changed tree, or the first cause why there is none. Each subtree off the path is shared with the tree, which
-/// stays. It takes at most the path's length and three steps.
+/// The changed tree, or the first cause why there is none. Each subtree off the path is shared with the tree, which is
+/// unchanged. It takes at most the path's length and three steps.
 pub fn apply<L: Ledger>(
     alloc: Global,
     t: &Tree,

@@ -162,9 +162,9 @@ pub fn carried(alloc: Global, t: &Tree, m: &Mod, path: &Path) -> Result<Option<P
     }
 }
 
-/// Carries the path in place, as `carried` does, and tells whether it leads on. A path that leads on nowhere stays, and
-/// so does one after `Memory`. Where the path of the modification neither begins this one nor goes on from it,
-/// nothing is copied.
+/// Carries the path in place, as `carried` does, and returns whether it leads on. A path that leads on nowhere is
+/// unchanged, and so is one after `Memory`. Where the path of the modification neither begins this one nor goes on from
+/// it, nothing is copied.
 pub fn carry_in_place(alloc: Global, t: &Tree, m: &Mod, path: &mut Path) -> Result<bool, Memory>
     requires applicable { IsOk (changed m.now t.now) }
     requires leads { IsSome (subtree t.now path.old) }

@@ -33,7 +33,7 @@ impl ModList {
         &self.mods
     }
 
-    /// The same modifications, which share trees and labels.
+    /// A copy of the modifications, which shares trees and labels.
     pub fn copy(&self, alloc: Global) -> Result<ModList, Memory>
         ensures { IfOk result (λ list. list ≡ self.now) }
     {

@@ -20,7 +20,7 @@ use Rattle.tx_open.specs.Outcomes.{CanBeOpened, ComesTo, EndsIn, EndsOf, IsCause
 use Rattle.tx_open.specs.Outcomes.{missing, too_long, no_tree, store_fault, no_memory}
 use Rattle.tx_open.proofs.Single.{AskOnce, ends_or_opens, not_files, same_files}
 
--- where bytes have no fault, reading them comes to nothing but want of memory
+-- where bytes have no fault, reading them can fail only when out of memory
 pub only_memory : (bytes : List ℕ) (fault : ReadFault) → (fault ≢ Memory → IsTmFault bytes fault)
     → (IsTmFault bytes fault → ⊥) → fault ≡ Memory
 only_memory bytes (Stray n) h none = absurd (none (h (λ e. cc)))

@@ -1,4 +1,4 @@
--- Words and files come to one outcome.
+-- Words and files have one outcome.
 use Rattle.std.proofs.Common.{◌≡◌, ℕ, List, [], ◌∷◌, ◌++◌, Some, refl, sym, subst, ap, ap₂, ◌∙◌}
 use Rattle.tx_tm_form.specs.Forms.{Spells as SpellsTm}
 use Rattle.tx_tm_form.proofs.Words.{one_tree as tm_tree_once}

@@ -1,4 +1,4 @@
--- The answers of the program, as outcomes.
+-- The results of the program, as outcomes.
 use Rattle.std.specs.Prelude.{ℕ, ◌*◌}
 use Rattle.tx_open.specs.declared.failure.Failure.{Failure}
 use Rattle.tx_open.specs.declared.failure.Failure.TheVariants as failures

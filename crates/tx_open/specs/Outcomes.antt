@@ -1,4 +1,4 @@
--- What opening comes to, from the words and the files.
+-- The outcome of opening, by the words and the files.
 use Rattle.std.specs.Prelude.{◌≡◌, ◌≤◌, ℕ, List, [], ◌∷◌, ◌++◌, length, sum_by, codes, Option, Some, IfSome}
 use Rattle.tx_outside.specs.Counts.{Rose}
 use Rattle.tx_outside.specs.Files.{Files, IsAbsent, IsTooLong, file_of}
@@ -58,7 +58,7 @@ pub record IsReadAs (files : Option Files) (file : Named) (buffer : Buffer) : Ty
   pub read : IsTreeOfFile files file.word spelled
   pub made : buffer.tree ≡ modern spelled
 
--- Opening ends at the file of this word. A fault of the store and want of memory may come at each.
+-- Opening ends at the file of this word. A fault of the store may come at each file, and memory may run out.
 abbrev pub EndsAt : Option Files → List ℕ → OpenOutcome → Type 0
 EndsAt files file (missing word) = (word ≡ file) × IfSome files (IsAbsent file)
 EndsAt files file (too_long word) = (word ≡ file) × IfSome files (IsTooLong file)
@@ -116,7 +116,7 @@ pub record IsGeneratedAs (words : List (List ℕ)) (all : Opened) : Type 0 where
   pub alone : all.buffers ≡ buffer ∷ []
   pub made : IsGenerated number count buffer
 
--- What the words and the files come to: the first file that isn't read decides. Memory may run out at any time, also
+-- The outcome of the words and the files: the first file that isn't read decides. Memory may run out at any time, also
 -- while the words are read.
 abbrev pub ComesTo : List (List ℕ) → Option Files → OpenOutcome → Type 0
 ComesTo words files faulty_words = AreFaulty words
@@ -125,7 +125,7 @@ ComesTo words files (opened all) = IsOpenedAs words files all
 ComesTo words files (generated all) = IsGeneratedAs words all
 ComesTo words files ended = EndsOf words files ended
 
--- neither a fault of the store nor want of memory
+-- neither a fault of the store nor out of memory
 abbrev pub IsDecided : OpenOutcome → Type 0
 IsDecided (store_fault word) = ⊥
 IsDecided no_memory = ⊥
@@ -138,7 +138,7 @@ IsCaused before after (too_long word) = Rose before.longs after.longs
 IsCaused before after (store_fault word) = Rose before.faults after.faults
 IsCaused before after _ = Unit {0}
 
--- the files are told, and the words ask for some that are read
+-- the files are known, and the words ask for some that are read
 pub record CanBeOpened (words : List (List ℕ)) (files : Option Files) : Type 0 where
   pub told : Files
   pub known : files ≡ Some told

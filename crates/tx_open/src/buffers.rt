@@ -4,7 +4,7 @@ ghost use Rattle.std.specs.Prelude.{◌≡◌};
 use std::marker::Model;
 use tx_doc::Buffer;
 
-/// Buffers, in their order: the document, and the styles behind it.
+/// Buffers, in their order: the document, and the styles after it.
 ///
 /// Contracts see the list of them.
 #[derive(Drop)]

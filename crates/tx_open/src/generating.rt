@@ -15,7 +15,7 @@ use tx_generated::{document_laws, generated};
 use tx_tm_form::bytes_have_one_fault;
 use tx_tree::{ReadFault, Tree};
 
-// The one fault that a text within the limits can come to.
+// The one fault that a text within the limits can have.
 fn want_of_memory(_fault: ReadFault) -> Memory
     requires { _fault ≡ ReadFault.Memory }
 {

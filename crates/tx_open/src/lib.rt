@@ -1,7 +1,7 @@
 //! The files that the words of the command line name, loaded and read, or the document that they ask to generate.
 //!
-//! What words and files come to is `ComesTo` of `specs/Outcomes.antt`. The words are read by `tx_words`, and each file
-//! by `tx_scm` or `tx_tm_read`, as its name says.
+//! The outcome of words and files is `ComesTo` of `specs/Outcomes.antt`. The words are read by `tx_words`, and each
+//! file by `tx_scm` or `tx_tm_read`, as its name says.
 #![tactic(auto)]
 
 mod buffers;
@@ -12,5 +12,5 @@ mod laws;
 mod opening;
 
 pub use buffers::Buffers;
-pub use laws::one_outcome;
+pub use laws::{loads_are_counted, one_outcome};
 pub use opening::{Opened, Opening, open};

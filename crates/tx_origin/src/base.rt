@@ -22,7 +22,7 @@ impl<'a> Model for Base<'a> {
     ghost view = { λ b. path_below b.front.now (option_copied b.below) };
 }
 
-// A path with both one behind the other.
+// A path of both in order.
 fn joined(alloc: Global, front: &Path, below: &Path) -> Result<Path, Memory>
     ensures { IfOk result (λ p. p ≡ front.now ++ below.now) }
 {
@@ -44,7 +44,7 @@ impl<'a> Base<'a> {
         }
     }
 
-    /// The first path, and the other one behind it.
+    /// The first path, and then the other one.
     pub fn joined(front: &'a Path, below: &'a Path) -> Base<'a>
         ensures { result ≡ front.now ++ below.now }
     {

@@ -7,8 +7,8 @@ use std::rc::Rc;
 use tx_base::Memory;
 use tx_tree::Path;
 
-/// A path that is kept from its end, so that paths share their beginnings. Contracts see it as the list of its numbers
-/// from the root.
+/// A path that is stored from its end, so that paths share their beginnings. Contracts see it as the list of its
+/// numbers from the root.
 #[cycle(ip)]
 #[derive(Drop)]
 pub struct Ip {
@@ -52,7 +52,7 @@ impl Ip {
         }
     }
 
-    /// The same path, which shares all its cells.
+    /// A share of the path, which shares all its cells.
     pub fn share(&self) -> Result<Ip, Memory>
         ensures { IfOk result (λ p. p ≡ self.now) }
     {

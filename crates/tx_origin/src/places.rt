@@ -1,4 +1,4 @@
-// Places that are told from a path that stands elsewhere.
+// Places that are given from another path.
 ghost use Rattle.std.specs.Prelude.{◌≡◌, length, IfOk, MatchOption, None, Some, option_copied, slice_get};
 ghost use Rattle.tx_origin.specs.RelativePlaces.{path_below};
 
@@ -9,8 +9,8 @@ use std::marker::Model;
 use tx_base::Memory;
 use tx_tree::{Path, Place};
 
-/// An origin, and an offset in what stands there. Contracts see it as a place whose path begins where another path
-/// ends, as that of a part of the document.
+/// An origin, and an offset in what is there. Contracts see it as a place whose path begins where another path ends, as
+/// that of a part of the document.
 #[derive(Drop)]
 pub struct At {
     origin: Ip,
@@ -76,8 +76,8 @@ impl At {
     }
 }
 
-/// A path, an origin below it or none, and an offset. Contracts see what it was made of; the place that it stands for
-/// has the path with the origin behind it.
+/// A path, an origin below it or none, and an offset. Contracts see what it was made of. The place has the path with
+/// the origin appended.
 #[derive(Drop)]
 pub struct Spot<'a> {
     base: Base<'a>,
@@ -106,7 +106,7 @@ impl<'a> Spot<'a> {
         Spot::behind(Base::new(base), at, offset)
     }
 
-    /// The same, where the path is lent in two pieces.
+    /// Such a place, where the path is lent in two pieces.
     pub fn behind(base: Base<'a>, at: Option<&'a Ip>, offset: u32) -> Spot<'a>
         ensures base { result.base ≡ base.entry }
         ensures origin { result.origin ≡ option_copied at.entry }
@@ -140,7 +140,7 @@ impl<'a> Spot<'a> {
         self.offset
     }
 
-    /// The place as a `Place` of its own, whose path is the path with the origin behind it.
+    /// The place as a `Place` of its own, whose path is the path with the origin appended.
     pub fn place(&self, alloc: Global) -> Result<Place, Memory>
         ensures path { IfOk result (λ p. p.path ≡ path_below self.now.base self.now.origin) }
         ensures offset { IfOk result (λ p. p.offset ≡ self.now.offset) }

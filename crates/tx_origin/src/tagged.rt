@@ -10,7 +10,7 @@ use std::alloc::Global;
 use tx_base::Memory;
 use tx_tree::Tree;
 
-/// A tree, and where it stands.
+/// A tree, and its origin.
 #[derive(Drop)]
 pub struct Tagged {
     pub tree: Tree,
@@ -27,7 +27,7 @@ pub(crate) fn child_at(alloc: Global, at: &Option<Ip>, i: u32) -> Result<Option<
     }
 }
 
-/// The same origin, or none again.
+/// A share of the origin, or none again.
 pub fn share_origin(at: &Option<Ip>) -> Result<Option<Ip>, Memory>
     ensures { IfOk result (λ o. o ≡ at.now) }
 {

@@ -18,7 +18,7 @@ use std::sync::ledger::Ledger;
 use tx_base::{Memory, Steps};
 use tx_tree::{Label, Text, Tree, TreeFault, share_tree};
 
-/// A tree each of whose nodes has an origin or none. It is within the limits of trees, and answers its size, its depth
+/// A tree each of whose nodes has an origin or none. It is within the limits of trees, and returns its size, its depth
 /// and the number of its nodes without a walk. Values share their parts.
 ///
 /// Contracts see a value as a wide value (`specs/Values.antt`), which is a value without limits.
@@ -121,7 +121,7 @@ impl Value {
         })
     }
 
-    /// The same value, which shares all its parts: no node is copied.
+    /// A share of the value, which shares all its parts: no node is copied.
     pub fn share(&self) -> Result<Value, Memory>
         ensures { IfOk result (λ v. v ≡ self.now) }
     {
@@ -227,8 +227,8 @@ impl Value {
         self.nodes
     }
 
-    /// The tree that stands at this origin, with the origins of its parts. It shares the tree's texts, and keeps the
-    /// tree, so that `plain` of it or of one of its nodes copies nothing.
+    /// The tree at this origin, with the origins of its parts. It shares the tree's texts, and keeps the tree, so that
+    /// `plain` of it or of one of its nodes copies nothing.
     #[tactic(auto, using(crate::proofs::Wholes::whole_rules, std::proofs::lemmas::Grind::common_steps))]
     pub fn whole(alloc: Global, tree: &Tree, at: &Option<Ip>) -> Result<Value, Memory>
         ensures value { IfOk result (λ v. v ≡ whole at.now tree.now) }
@@ -251,8 +251,8 @@ impl Value {
         whole_node(alloc, tree, label, parts, at)
     }
 
-    /// The same value, each of whose origins has this path before it: a part that is evaluated alone, as it stands in
-    /// the whole.
+    /// This value, each of whose origins has this path before it: a part that is evaluated alone, as it is in the
+    /// whole.
     pub fn under(&self, alloc: Global, base: &Ip) -> Result<Value, Memory>
         ensures { IfOk result (λ v. v ≡ value_under base.now self.now) }
     {
@@ -317,7 +317,7 @@ impl Value {
     }
 }
 
-// The value of a text that stands at this origin.
+// The value of a text at this origin.
 fn whole_leaf(alloc: Global, words: &Text, at: &Option<Ip>) -> Result<Value, Memory>
     ensures { IfOk result (λ v. v ≡ text words.now at.now) }
 {
@@ -349,7 +349,7 @@ fn plain_leaf(alloc: Global, words: &Text) -> Result<Tree, Memory>
     Tree::leaf(alloc, words.copy()?)
 }
 
-// The same tree, with as many steps.
+// A share of the tree, with as many steps.
 fn taken<L: Ledger>(tree: &Tree, nodes: u64, steps: &mut Steps<L>) -> Result<Tree, Memory>
     ensures ok { IfOk result (λ t. t ≡ tree.now) }
     ensures counted { OnOk result (steps.new ≡ steps.old + nodes) }

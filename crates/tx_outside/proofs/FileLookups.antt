@@ -10,11 +10,11 @@ use Rattle.tx_outside.specs.Files.{Files, file_of, NamesDiffer, WithFile, Stands
 bytes_eq-same : (name : List ℕ) → bytes_eq name name ≡ true
 bytes_eq-same name = (bytes_eq-Decides name name).1 refl
 
--- two names that differ are told apart
+-- names that differ compare as unequal
 bytes_eq-other : (a b : List ℕ) → a ≢ b → bytes_eq a b ≡ false
 bytes_eq-other a b differ = false_from_ne_true (bytes_eq a b) (λ same. differ ((bytes_eq-Decides a b).0 same))
 
--- names that are told apart differ
+-- names that compare as unequal differ
 differ-from_false : (a b : List ℕ) → bytes_eq a b ≡ false → a ≢ b
 differ-from_false a b apart same = let t : bytes_eq a b ≡ true = (bytes_eq-Decides a b).1 same in cc
 
@@ -47,7 +47,7 @@ file_of-take_more name (file ∷ files) (suc i) d within none other =
     let parts = none_parts _ _ _ none in
     passed _ _ _ parts.0 ∙ file_of-take_more name files i d (omega arith) parts.1 other
 
--- the file that stands at a place is the one that is found
+-- where the first file of that name is at a place, the lookup returns its bytes
 pub file_of-at : (name : List ℕ) (files : Files) (place : ℕ) (d : List ℕ × List ℕ) → place < length files
     → file_of (take place files) name ≡ None → (get_or files place d).0 ≡ name
     → file_of files name ≡ Some (get_or files place d).1
@@ -117,7 +117,7 @@ NamesDiffer-push name bytes (file ∷ files) none differ =
     let apart : file.0 ≢ name = λ e. differ-from_false name file.0 parts.0 (sym e) in
     (file_of-push name bytes file.0 files parts.1 apart ∙ differ.0, NamesDiffer-push name bytes files parts.1 differ.1)
 
--- a file that gets other bytes where it stands
+-- a file that gets other bytes in its place
 module _ (name bytes : List ℕ) (old seen : Files) (place : ℕ) (before after : List ℕ × List ℕ) (same : seen ≡ old)
     (stands : StandsAt name seen place) (read : before ≡ get_or old place before) (written : after ≡ (before.0, bytes))
   where

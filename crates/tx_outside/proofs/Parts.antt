@@ -1,4 +1,4 @@
--- Parts of pieces that stand one behind the other.
+-- Parts of pieces that are appended in order.
 use Rattle.std.proofs.Common.{◌≡◌, ℕ, suc, ◌+◌, List, [], ◌∷◌, ◌++◌, length, take, sym, ap, ◌∙◌}
 use Rattle.std.proofs.Common.{Option, length-append, arith}
 use Rattle.std.specs.Io.KnownBytes.{append_known}

@@ -1,7 +1,7 @@
 -- Counts of what went wrong: numbers up to 2 ^ 64 - 1 that never fall.
 use Rattle.std.specs.Prelude.{◌≡◌, ℕ, ◌+◌, ◌-◌, ◌^◌, ◌<◌, ◌≤◌, ◌⊎◌, min}
 
--- the count rose: it is above where it began, or stands at the last value that a counter has
+-- the count rose: it is above its first value, or is the last value that a counter has
 abbrev pub Rose : ℕ → ℕ → Type 0
 Rose old new = (old < new) ⊎ (new ≡ 2 ^ 64 - 1)
 

@@ -35,7 +35,7 @@ pub record WithFile (name bytes : List ℕ) (old new : Files) : Type 0 where
   pub file : file_of new name ≡ Some bytes
   pub others : OthersKept name old new
 
--- the first file of that name stands at that place
+-- the first file of that name is at that place
 pub record StandsAt (name : List ℕ) (files : Files) (place : ℕ) : Type 0 where
   pub within : place < length files
   pub before : IsAbsent name (take place files)

@@ -4,17 +4,17 @@ use Rattle.tx_outside.specs.Counts.{NeverFalls, Rose}
 use Rattle.tx_outside.specs.Files.{Files}
 use Rattle.tx_outside.specs.Known.{StaysKnown}
 
--- a source: the bytes that are still to come, where it tells them, and how often it has failed
+-- a source: the bytes that are still to come, where it reports them, and how often it has failed
 pub record SourceSeen : Type 0 where
   pub left : Option (List ℕ)
   pub faults : ℕ
 
--- a sink: the bytes that were written, where it tells them, and how often it has failed
+-- a sink: the bytes that were written, where it reports them, and how often it has failed
 pub record SinkSeen : Type 0 where
   pub written : Option (List ℕ)
   pub faults : ℕ
 
--- a store: each file, where it tells them; how often it has failed, how often a file that was asked for wasn't there,
+-- a store: each file, where it reports them; how often it has failed, how often a file that was asked for wasn't there,
 -- and how often one was too long
 pub record StoreSeen : Type 0 where
   pub files : Option Files
@@ -22,7 +22,7 @@ pub record StoreSeen : Type 0 where
   pub misses : ℕ
   pub longs : ℕ
 
--- Through any calls what is told stays told, and no count falls.
+-- Through any calls known contents remain known, and no count falls.
 pub record SourceGoesOn (old new : SourceSeen) : Type 0 where
   pub known : StaysKnown old.left new.left
   pub faults : NeverFalls old.faults new.faults

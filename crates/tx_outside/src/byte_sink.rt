@@ -10,12 +10,12 @@ use crate::{Failed, WriteFault};
 
 /// A sink of bytes, such as the standard output.
 pub trait Sink {
-    /// The bytes that were written, where the sink tells them, and how often it has failed: a number up to 2^64 - 1
+    /// The bytes that were written, where the sink reports them, and how often it has failed: a number up to 2^64 - 1
     /// that never falls.
     ghost seen: { Self → SinkSeen };
 
-    /// Writes the first bytes of `piece`, which isn't empty, and answers how many: at least one, since a
-    /// device that takes nothing of a piece has failed and counts it. After `Failed` nothing is written.
+    /// Writes the first bytes of `piece`, which isn't empty, and returns how many: at least one, since a device that
+    /// takes nothing of a piece has failed and counts it. After `Failed` nothing is written.
     fn write(&mut self, piece: &[u8]) -> Result<usize, Failed>
         requires { 0 < length piece.now }
         ensures some { IfOk result (λ n. 0 < n) }
@@ -44,7 +44,7 @@ pub fn write_all<O: Sink>(out: &mut O, piece: &[u8]) -> Result<(), WriteFault>
 }
 
 /// A law: where a part of a piece was appended, that is a part of any longer piece. And where the whole of a piece was
-/// appended and then a part of another, that is a part of the two, one behind the other.
+/// appended and then a part of another, that is a part of the two in order.
 pub fn parts_compose()
     ensures before { (x y : List ℕ) (old new : Option (List ℕ)) → AppendsPart x old new →
         AppendsPart (x ++ y) old new }

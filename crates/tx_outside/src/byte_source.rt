@@ -9,13 +9,12 @@ use crate::Failed;
 
 /// A source of bytes, such as the standard input.
 pub trait Source {
-    /// The bytes that are still to come, where the source tells them, and how often it has failed: a number up to
+    /// The bytes that are still to come, where the source reports them, and how often it has failed: a number up to
     /// 2^64 - 1 that never falls.
     ghost seen: { Self → SourceSeen };
 
-    /// Takes the next bytes into the start of `into`, which isn't empty, and answers how many. It answers
-    /// 0 only at the end. What `into` holds behind them is left open. After `Failed` no byte is taken, and
-    /// all that `into` holds is left open.
+    /// Takes the next bytes into the start of `into`, which isn't empty, and returns how many. It returns 0 only at the
+    /// end. The rest of `into` is left open. After `Failed` no byte is taken, and all of `into` is left open.
     fn read(&mut self, into: &mut [u8]) -> Result<usize, Failed>
         requires { 0 < length into.old }
         ensures within { IfOk result (λ n. n ≤ length into.old) }

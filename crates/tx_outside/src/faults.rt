@@ -1,8 +1,8 @@
-// What the calls of the outside answer when they fail.
+// The errors that the calls of the outside return.
 use std::alloc::{AllocError, AllocFailed};
 use thiserror::Error;
 
-/// The device behind a source or a sink has failed, and counted it.
+/// The device under a source or a sink has failed, and counted it.
 #[derive(Clone, Copy, Debug, PartialEq, Eq, Error)]
 #[error("the device failed")]
 pub struct Failed;

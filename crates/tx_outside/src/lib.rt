@@ -1,12 +1,10 @@
-//! The outside as values behind three traits: a `Source` of bytes, a `Sink` of bytes, and a `Store` of
-//! files.
+//! The outside as values of three traits: a `Source` of bytes, a `Sink` of bytes, and a `Store` of files.
 //!
-//! What contracts know of an implementation are its ghost members: the contents, which it may leave
-//! untold, and counts of what went wrong. So the meaning of an answer is a relation between the
-//! contents before and after the call (`append_known` and `prepend_known` of std, `WithFile` and
-//! `OthersKept` of `specs/Files.antt`), and the cause of a fault is a count that rose (`Rose` of
-//! `specs/Counts.antt`). `write_all` writes a whole piece. `MemSource`, `MemSink` and `MemStore` are
-//! the three in memory: they tell all contents, and fail exactly where they are asked to.
+//! Contracts know of an implementation its ghost members: the contents, which it may leave unknown, and counts of what
+//! went wrong. What a call does is a relation between the contents before and after it (`append_known` and
+//! `prepend_known` of std, `WithFile` and `OthersKept` of `specs/Files.antt`). The cause of a fault is a count that
+//! rose (`Rose` of `specs/Counts.antt`). `write_all` writes a whole piece. `MemSource`, `MemSink` and `MemStore` are
+//! the three in memory: they report all contents, and fail exactly where they are asked to.
 #![tactic(auto)]
 
 mod byte_sink;

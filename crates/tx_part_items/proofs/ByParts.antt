@@ -1,4 +1,4 @@
--- What a tree shows is what its parts show, one behind the other.
+-- What a tree shows is what its parts show, in order.
 use Rattle.std.proofs.Common.{◌≡◌, ℕ, zero, suc, ◌+◌, ◌*◌, ◌-◌, List, [], ◌∷◌, ◌++◌, map, length}
 use Rattle.std.proofs.Common.{refl, ap, sym, ◌∙◌, subst}
 use Rattle.std.proofs.lemmas.List.{append-nil, append_assoc, map-append}
@@ -50,7 +50,7 @@ record ShowAs (back : Attrs → Attrs) (s : Shown) (vs rest : List PartValue) (r
   pub paragraphs : flat_map paragraphs_in_tree r.each ≡ one_by_one ((s.form, back s.after) ∷ [])
   pub errors : flat_map part_errors r.each ≡ s.errors
 
--- the same of several trees, each a paragraph of its own
+-- The parts with these values show what several trees show, each a paragraph of its own.
 record ShowEach (all : AllShown) (vs rest : List PartValue) (r : PartsShown) : Type 0 where
   pub each : map own_value r.each ≡ vs
   pub after : r.after ≡ all.after
@@ -88,7 +88,7 @@ shut_part path o trace back a rest t h =
 
 -- ---- `with`
 
--- the last value behind settings
+-- the last value after settings
 behind_settings : (path : List ℕ) (i : ℕ) (ps : Settings) (w : WideValue) (before a : Attrs) →
     show_with before a (values_under path (vals (setting_values i ps ++ w ∷ []))) ≡
     Some (record (show (settings_set ps a) (value_under path w)) {
@@ -113,7 +113,7 @@ with_shows path ps trace a =
     ∙ ap (with_shown a (codes "with")) (sym (behind_settings path 0 ps
     (value_under ((2 * length ps) ∷ []) trace.value) a a))
 
--- what settings set is given back behind the inner tree, and at the end of its paragraph where it is in a line
+-- what settings set is given back after the inner tree, and at the end of its paragraph where it is in a line
 settings_back : (ps : Settings) (back : Attrs → Attrs) (a : Attrs) (s : Shown) (vs rest : List PartValue)
     (r : PartsShown) → ShowAs (λ c. back (settings_given_back ps a c)) s vs rest r →
     ShowAs back (record s { after = settings_given_back ps a s.after }) vs rest
@@ -140,7 +140,7 @@ first_form : (f : Form × Attrs) (fs : List (Form × Attrs)) →
 first_form (inline r, a) fs = refl
 first_form (listed ps, a) fs = ap (λ qs. qs ++ one_by_one fs) (append-nil ps)
 
--- the parts of one tree, and those of the others behind it
+-- the parts of one tree, and those of the others after it
 abbrev joined_parts : PartsShown → PartsShown → PartsShown
 joined_parts r q = record { each = r.each ++ q.each; after = q.after; left = q.left }
 
@@ -174,7 +174,7 @@ AllShow k = (c : ℕ) (path : List ℕ) (t : WideTree) (e : Before) (trace : Wid
     ShowAs back (show a (value_under path trace.value)) (values_of (parts k c path t e)) rest
     (parts_shown k back a (values_of (parts k c path t e) ++ rest) t)
 
--- what children show whose values stand behind those so far, with these parts
+-- what children show whose values come after those so far, with these parts
 record ChildrenShow (k : ℕ) (path : List ℕ) (sofar b : SoFar) (ts : List WideTree) (vs : List PartValue) : Type 0 where
   pub values : List WideValue
   pub are : b.values ≡ sofar.values ++ values
@@ -182,7 +182,7 @@ record ChildrenShow (k : ℕ) (path : List ℕ) (sofar b : SoFar) (ts : List Wid
       (children_shown (parts_shown k) a (vs ++ rest) ts)
 
 module _ (k : ℕ) (all : AllShow k) (c : ℕ) (path : List ℕ) (e : Before) where
-  -- the parts of the others behind a first child that comes to this
+  -- the parts of the others after a first child with this trace
   abbrev others_parts : ℕ → SoFar → List WideTree → Option WideTrace → List Part
   others_parts i a ts o =
       option_map_or (λ trace. parts_from k (parts k) c path (i + 1) (with_child i a trace) ts e) o []
@@ -270,7 +270,7 @@ document_shows k path b ts vs back a rest h =
 
 module _ (k : ℕ) (all : AllShow k) (c : ℕ) (path : List ℕ) (t : WideTree) (e : Before) (trace : WideTrace)
     (back : Attrs → Attrs) (a : Attrs) (rest : List PartValue) where
-  -- these parts, shown so, are what the tree shows
+  -- these parts show what the tree shows
   abbrev AsTree : List PartValue → PartsShown → Type 0
   AsTree vs r = ShowAs back (show a (value_under path trace.value)) vs rest r
 

@@ -1,4 +1,4 @@
--- A value that stands deeper shows the same, with the items' origins under the path.
+-- A value with origins under a path shows what the value shows, with the items' origins under the path.
 use Rattle.std.proofs.Common.{◌≡◌, ℕ, zero, suc, ◌+◌, ◌-◌, List, [], ◌∷◌, ◌++◌, map, take, drop, length, refl, ap, ap₂}
 use Rattle.std.proofs.Common.{sym, ◌∙◌, ◌&&◌, ◌||◌, not, arith}
 use Rattle.std.proofs.lemmas.List.{map-append}
@@ -502,7 +502,7 @@ module _ (base : List ℕ) where
 
   -- ---- values
 
-  -- one value, and others behind it
+  -- one value, and others after it
   abbrev first_shown : Bool → Attrs → Shown → AllShown → AllShown
   first_shown barred a s rest = record {
     each = behind_bar barred a ((s.form, s.after) ∷ rest.each);
@@ -591,7 +591,7 @@ module _ (base : List ℕ) where
 
 -- ---- parts
 
--- a part shows as it stands in the tree what its value shows there
+-- a part's paragraphs in the tree are those that its value with origins under its path shows
 pub placed_paragraphs : (p : ShownPart) →
     paragraphs_in_tree p ≡ one_by_one (((show p.before (value_under p.path p.value)).form, p.end) ∷ [])
 placed_paragraphs p =

@@ -44,7 +44,7 @@ red_texts : (e : Before) → colors (shown in_red e) ≡
 unfolding in_red parts_shown show parts_by evaluated_in ex leaf_run pay need attribute_named
 red_texts e = refl
 
--- and behind it black again
+-- after it, it is black again
 black_behind : (e : Before) → (shown in_red e).after.color ≡ codes "black"
 unfolding in_red parts_shown show parts_by evaluated_in ex leaf_run pay need attribute_named
 black_behind e = refl
@@ -64,7 +64,7 @@ empty_whole : (e : Before) → counts (shown (tag (codes "document") (tag (codes
 unfolding parts_shown show rule_of parts_by evaluated_in ex node_run row rebuilt pay need
 empty_whole e = refl
 
--- (document (assign "par-mode" "center")): one empty paragraph, with the mode behind the part
+-- (document (assign "par-mode" "center")): one empty paragraph, with the mode after the part
 assigned_mode : (e : Before) → counts (shown (tag (codes "document")
     (tag (codes "assign") (leaf (codes "par-mode") ∷ leaf (codes "center") ∷ []) ∷ [])) e) ≡
     (0, codes "center") ∷ []
@@ -79,7 +79,7 @@ broken : (e : Before) → counts (shown (tag (codes "with")
 unfolding parts_shown show rule_of parts_by evaluated_in ex node_run row rebuilt pay need attribute_named
 broken e = refl
 
--- (with "par-mode" "center" (concat)): a unit in a line, without an item, has the mode behind the `with`
+-- (with "par-mode" "center" (concat)): a unit in a line, without an item, has the mode after the `with`
 behind_with : (e : Before) → counts (shown (tag (codes "with")
     (leaf (codes "par-mode") ∷ leaf (codes "center") ∷ tag (codes "concat") [] ∷ [])) e) ≡
     (0, codes "left") ∷ []
@@ -96,7 +96,7 @@ last_given_back : (e : Before) → modes (shown twice_set e) ≡
 unfolding twice_set parts_shown show parts_by evaluated_in ex leaf_run pay need attribute_named
 last_given_back e = refl
 
--- (document (assign "color" "red") ""): what a part sets stays set before those behind it
+-- (document (assign "color" "red") ""): what a part sets is set before those after it
 assigned_color : (e : Before) → colors (shown (tag (codes "document")
     (tag (codes "assign") (leaf (codes "color") ∷ leaf (codes "red") ∷ []) ∷ leaf [] ∷ [])) e) ≡
     ((0 ∷ []), codes "black", codes "red") ∷ ((1 ∷ []), codes "red", codes "red") ∷ []

@@ -1,4 +1,4 @@
--- What is shown of values that stand deeper by a path: the items have their origins under it.
+-- What values under a path show: the items have their origins under it.
 use Rattle.std.specs.Prelude.{ℕ, List, map}
 use Rattle.tx_origin.specs.Under.{origin_under}
 use Rattle.tx_items.specs.Looks.{WideLook}

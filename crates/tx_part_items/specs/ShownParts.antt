@@ -20,7 +20,7 @@ pub record PartValue : Type 0 where
   pub path : List ℕ
   pub value : WideValue
 
--- of a part that isn't over
+-- of a part that has a trace
 abbrev pub kept_value : Stored → Option PartValue
 kept_value p = option_map (λ trace. record { path = p.path; value = trace.value }) p.trace
 
@@ -46,7 +46,7 @@ show_part p = show p.before p.value
 abbrev pub own_paragraphs : ShownPart → List Paragraph
 own_paragraphs p = part_paragraphs (show_part p).form p.end
 
--- as they stand in the tree
+-- with their origins in the tree
 abbrev pub paragraphs_in_tree : ShownPart → List Paragraph
 paragraphs_in_tree p = map (paragraph_under p.path) (own_paragraphs p)
 
@@ -55,7 +55,7 @@ part_errors p = (show_part p).errors
 
 -- ---- what the parts of a tree show
 
--- the attributes behind them, and the values that are left
+-- the parts, the attributes after them, and the values that are left
 pub record PartsShown : Type 0 where
   pub each : List ShownPart
   pub after : Attrs
@@ -85,7 +85,7 @@ shut_shown back a (p ∷ ps) t = record {
   left = ps;
 }
 
--- children one behind the other; a paragraph ends within the child
+-- children in order; a paragraph ends within the child
 abbrev pub children_shown : Shower → Attrs → List PartValue → List WideTree → PartsShown
 children_shown shower a ps [] = record { each = []; after = a; left = ps }
 children_shown shower a ps (t ∷ ts) =
@@ -107,7 +107,7 @@ parts_shown (suc k) back a ps t = shown_as (openness t) (parts_shown k) back a p
 
 -- ---- a whole tree
 
--- no `with` stands round it
+-- no `with` is round it
 abbrev pub tree_shown : ℕ → Attrs → List Stored → WideTree → PartsShown
 tree_shown k a ps t = parts_shown k (λ b. b) a (kept_values ps) t
 

@@ -13,8 +13,8 @@ ghost use Rattle.tx_part_items.specs.ItemsUnder.{shown_under, paragraph_under};
 ghost use Rattle.tx_part_items.specs.ShownParts.{ShownPart, paragraphs_in_tree, kept_values, own_value, tree_shown};
 ghost use Rattle.tx_part_items.specs.ShownParts.{paragraphs_by_parts, errors_by_parts};
 
-/// A law: a value whose origins are under a path shows what the value shows, with the items' origins under the path. So
-/// the paragraphs of a part as they stand in the tree are shown by the part's value as it stands there.
+/// A law: a value whose origins are under a path shows what the value shows, with the items' origins under the path.
+/// The paragraphs of a part in the tree are those that its value with origins under its path shows.
 pub fn items_under_law()
     ensures shown { (base : List ℕ) (a : Attrs) (v : WideValue) →
         show a (value_under base v) ≡ shown_under base (show a v) }
@@ -24,7 +24,7 @@ pub fn items_under_law()
         paragraphs_in_tree p ≡ part_paragraphs (show p.before (value_under p.path p.value)).form p.end }
 {}
 
-/// A law: what a tree shows is what its parts show, one behind the other, where the tree isn't over. Each part is shown
+/// A law: where a tree doesn't run out of steps or levels, it shows what its parts show, in order. Each part is shown
 /// once, by its value alone.
 pub fn parts_shown_law()
     ensures each { (k c : ℕ) (t : WideTree) (e : Before) (trace : WideTrace) (a : Attrs) →

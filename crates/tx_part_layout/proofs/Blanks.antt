@@ -22,7 +22,7 @@ by_blank (listed ps) after end = refl
 pub blank_is : (x : Form) (end : Attrs) → is_blank x ≡ true → part_paragraphs x end ≡ paragraph [] end ∷ []
 blank_is x end e = by_blank x end end ∙ ap (λ b. if b then paragraph [] end ∷ [] else part_paragraphs x end) e
 
--- a part's paragraphs, where these are its own with the attributes behind it
+-- a part's paragraphs, where these are its own with the attributes after it
 pub ended_are : (x : Form) (b : Bool) (after end : Attrs) (own ps : List Paragraph) → b ≡ is_blank x →
     own ≡ part_paragraphs x after → ps ≡ (if b then paragraph [] end ∷ [] else own) → ps ≡ part_paragraphs x end
 ended_are x b after end own ps blank are e =
@@ -47,7 +47,7 @@ blank_laid width p q end h blank value before after also_blank errors own lines 
       lines = lines;
     }
 
--- the attributes behind the part are given back
+-- the attributes after the part are given back
 pub blank_again : (width : ℕ) (p : LaidPart) (fs : List Frame) (ps : List Paragraph) → IsLaidPart width p →
     p.blank ≡ true → ps ≡ paragraph [] (given_back_by fs p.after) ∷ [] →
     ps ≡ part_paragraphs (show p.before p.value).form (given_back_by fs (show p.before p.value).after)

@@ -46,7 +46,7 @@ same_items (inline (begun a items)) end after = refl
 same_items (listed []) end after = refl
 same_items (listed (p ∷ ps)) end after = ap items_in (append-nil (p ∷ ps))
 
--- and weighs no more
+-- it weighs no more
 most_weight : (x : Form) (end after : Attrs) →
     weight_of (part_paragraphs x end) ≤ weight_of (unit_paragraphs x after)
 most_weight (inline empty) end after = omega arith

@@ -56,7 +56,7 @@ both_anew old [] (p ∷ ps) qs = refl
 both_anew old (d ∷ ds) [] qs = omega arith
 both_anew old (d ∷ ds) (p ∷ ps) qs = omega (arith, both_anew old ds ps qs)
 
--- two lists of what parts show, one behind the other
+-- two lists of what parts show, in order
 both_mapped : {X Y : Type 0} (f : X → Y) (ps qs : List X) (xs ys zs : List Y) → ys ≡ xs ++ map f ps →
     zs ≡ ys ++ map f qs → zs ≡ xs ++ map f (ps ++ qs)
 both_mapped f ps qs xs ys zs e g =

@@ -84,7 +84,7 @@ around old parts r x u v y a m h n attrs frames =
           ∙ ap (λ i. x.unit.items + items_anew old (drop i parts) r.each) m.next;
     }
 
--- round a child of a `document` no `with` stands
+-- round a child of a `document` there is no `with`
 pub alone_laid : (old : List PlacedPart) (parts : List DonePart) (k : ℕ) (x u v y : Laying) (t : WideTree) →
     IsSameUnit x u → u.attrs ≡ x.attrs → u.frames.items ≡ [] → IsSameUnit v y → y.attrs ≡ v.attrs →
     y.frames.items ≡ x.frames.items →

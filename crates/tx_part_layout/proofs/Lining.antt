@@ -40,7 +40,7 @@ lines_are width ps qs ls ms h e f =
     subst (λ (ns : List Line). AreLines width qs ns) (sym f)
     (subst (λ (rs : List Paragraph). AreLines width rs ls) (sym e) h)
 
--- the law of lines that stand deeper
+-- the law of lines under a path
 abbrev pub Deeper : Type 0
 Deeper =
     (base : List ℕ) (width : ℕ) (ps : List Paragraph) (ls : List Line) → AreLines width ps ls →

@@ -1,4 +1,4 @@
--- Pages of other lines of which the same are the last of their page, and what a paginator was told of them.
+-- Pages of other lines with the same page ends, and the lines that a paginator was given.
 use Rattle.std.proofs.Common.{◌≡◌, ℕ, ◌-◌, ◌∙◌, inl, inr, Bool, true, false, List, [], ◌∷◌, ◌++◌, length, map, take}
 use Rattle.std.proofs.Common.{drop, get_or, refl, ap, sym, arith}
 use Rattle.std.specs.Prelude.{slice_range, All}
@@ -37,7 +37,7 @@ in_slice xs ys from to e =
     sym (take-map ends (to - from) (drop from xs)) ∙ ap (take (to - from)) (behind xs ys from e)
     ∙ take-map ends (to - from) (drop from ys)
 
--- A page is a cut of tx_lines, which this crate doesn't use: so its type isn't named.
+-- A page is a cut of tx_lines. This crate doesn't use it, so its type isn't named.
 same_page : (xs ys : List Line) (height : ℕ) (page : _) → page_ends xs ≡ page_ends ys → IsPage xs height page
     → IsPage ys height page
 same_page xs ys height page e p = record {
@@ -62,7 +62,7 @@ same_pages xs ys height at [] e h = h ∙ as_many xs ys e
 same_pages xs ys height at (page ∷ pages) e h =
     (h.0, same_page xs ys height page e h.1, same_pages xs ys height page.to pages e h.2)
 
--- ---- what was told
+-- ---- lines that were given
 
 side_by_side : (xs ys more : List Line) → page_ends xs ≡ page_ends ys → page_ends (xs ++ more) ≡ page_ends (ys ++ more)
 side_by_side xs ys more e =
@@ -82,7 +82,7 @@ same_told xs ys height p e h = record {
       (h.ended more later (same_pages (ys ++ more) (xs ++ more) height p.from later (sym same) paged));
 }
 
--- ---- lines that stand deeper
+-- ---- lines under a path
 
 ends_under : (base : List ℕ) (lines : List Line) → page_ends lines ≡ page_ends (map (line_under base) lines)
 ends_under base [] = refl

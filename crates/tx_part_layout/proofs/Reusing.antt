@@ -1,4 +1,4 @@
--- What was laid out at a path, by its number.
+-- The former layout at a path, by its number.
 use Rattle.std.proofs.Common.{◌≡◌, ℕ, zero, suc, ◌+◌, List, [], ◌∷◌, drop, get_or}
 use Rattle.std.proofs.Common.{refl, ap, sym, subst, ◌∙◌}
 use Rattle.std.proofs.lemmas.Slice.Eq.{bytes_eq-Decides}
@@ -39,7 +39,7 @@ if_false : (b : Bool) (o r : Option Attrs) → b ≡ false → (if b then o else
 if_false false o r h = refl
 if_false true o r h = cc
 
--- of parts with different paths the one at the path tells
+-- of parts with different paths, the one at the path counts
 pub at_path : (ps : List PlacedPart) (path : List ℕ) (i : ℕ) (p : PlacedPart) → IsDistinct bytes_eq (laid_paths ps) →
     slice_get ps i ≡ Some p → bytes_eq p.path path ≡ true → before_at ps path ≡ Some p.laid.value.before
 unfolding IsDistinct
@@ -56,7 +56,7 @@ at_path (q ∷ ps) path (suc i) p d h e =
     (ap (bytes_eq q.path) (sym there) ∙ other)
     ∙ at_path ps path i p d.1 h e
 
--- past one that stands elsewhere
+-- past one at another path
 pub past_other : (ps : List PlacedPart) (path : List ℕ) (i : ℕ) (p : PlacedPart) (o : Option Attrs) →
     slice_get ps i ≡ Some p → bytes_eq p.path path ≡ false → o ≡ before_at (drop i ps) path →
     o ≡ before_at (drop (i + 1) ps) path
@@ -81,7 +81,7 @@ pub found_near : (ps : List PlacedPart) (path : List ℕ) (i : ℕ) (p : PlacedP
 found_near ps path i p d h e =
     record { part = p; there = h; stands = (bytes_eq-Decides p.path path).0 e; is = at_path ps path i p d h e }
 
--- what was found is used again where the attributes before it are these
+-- what was found is reused where the attributes before it are these
 kept_is : (r : Bool) (o : Option Attrs) (b a : Attrs) → r ≡ false → o ≡ Some b →
     not r && is_before o a ≡ is_before (Some b) a
 kept_is r o b a e f = ap (λ x. not x && is_before o a) e ∙ ap (λ x. is_before x a) f

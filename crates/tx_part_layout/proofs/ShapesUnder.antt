@@ -1,4 +1,5 @@
--- Paragraphs whose items have their origins under a path have the lines of before, with their items' origins under it.
+-- Paragraphs whose items have their origins under a path have the lines that they have without it, with their items'
+-- origins under it.
 use Rattle.std.proofs.Common.{◌≡◌, ℕ, zero, suc, ◌+◌, ◌-◌, ◌/◌, ◌%◌, min, ◌≤◌, ◌<◌, inl, inr, Bool, true, false, not, ◌&&◌, cond}
 use Rattle.std.proofs.Common.{List, [], ◌∷◌, ◌++◌, map, take, drop, get_or, replicate}
 use Rattle.std.proofs.Common.{refl, ap, ap₂, sym, ◌∙◌, subst, arith}
@@ -168,7 +169,7 @@ module _ (base : List ℕ) where
   pieces_under items [] = refl
   pieces_under items (s ∷ ss) = ap₂ (λ p ps. p ∷ ps) (piece_under items s) (pieces_under items ss)
 
-  -- ---- lines, by cuts of tx_lines, which this crate doesn't use: so their type isn't named
+  -- ---- lines, by cuts of tx_lines; this crate doesn't use it, so their type isn't named
 
   gap_under : (n : ℕ) → items_under (gap_of n) ≡ gap_of n
   gap_under zero = refl

@@ -1,4 +1,4 @@
--- What is laid out of a part, new or as before.
+-- The layout of a part, new or former.
 use Rattle.std.proofs.Common.{◌≡◌, ℕ, ◌≤◌, ◌<◌, List, length, refl, ap, sym, subst, ◌∙◌, arith}
 use Rattle.std.specs.Prelude.{Some, slice_get, if◌then◌else◌}
 use Rattle.std.specs.List.{All}
@@ -49,12 +49,12 @@ new_is width old d a fs above j s n p h laid value before own anew few =
       few = few;
     }
 
--- none of the items of a part that is used again
+-- none of the items of a part that is reused
 pub none_of : (old : List PlacedPart) (d : DonePart) (a : Attrs) (i n : ℕ) → IsReused old d a i →
     0 ≡ (if is_reused old d a then 0 else n)
 none_of old d a i n r = ap (λ b. if b then 0 else n) (sym r.is)
 
--- what is known of the part that is used again
+-- what is known of the part that is reused
 pub record IsFormer (width : ℕ) (d : DonePart) (a : Attrs) (p : PlacedPart) : Type 0 where
   pub laid : IsLaidPart width p.laid.value
   pub path : p.path ≡ d.path

@@ -53,7 +53,7 @@ some_more false ps (q ∷ qs) h =
     subst (λ b. IsSome b (ps ++ q ∷ qs)) (is_some (length (q ∷ qs)) (length qs) (omega arith))
     (q, qs, ap (λ rs. rs ++ q ∷ qs) h)
 
--- ---- what stays
+-- ---- reused layouts
 
 unfilled : {X Y : Type 0} (f : X → Option Y) (x : X) (y : Y) → f x ≡ Some y → filter_map f (x ∷ []) ≡ y ∷ []
 unfilled f x y e = ap (λ o. cons_option o []) e

@@ -1,4 +1,4 @@
--- What stays is taken from behind.
+-- Reused layouts are taken from the end.
 use Rattle.std.proofs.Common.{◌≡◌, ℕ, zero, suc, ◌+◌, ◌≤◌, ◌<◌, List, [], ◌∷◌, ◌++◌, length, reverse, take, drop}
 use Rattle.std.proofs.Common.{refl, ap, ap₂, sym, subst, ◌∙◌, arith, append_assoc, length-append}
 use Rattle.std.specs.List.{cons_option}
@@ -25,7 +25,7 @@ rising_but n j s [] h = record {}
 rising_but n j s (Again k more ∷ ss) h = (h.0, h.1, rising_but n (k + 1) s ss h.2)
 rising_but n j s (Anew p ∷ ss) h = rising_but n j s ss h
 
--- ---- what is behind what stays
+-- ---- what is after a reused layout
 
 get_front : {X : Type 0} (xs ys : List X) (i : ℕ) → i < length xs → slice_get (xs ++ ys) i ≡ slice_get xs i
 get_front [] ys i h = absurd (omega (arith, h))
@@ -59,7 +59,7 @@ put_last old ss s q had all target there more going =
     ∙ ap (λ qs. qs ++ reverse had) (sym (placed_more old ss (ss ++ s ∷ []) s q refl there))
     ∙ going
 
--- so many of the old ones are left, and the one behind them is the next
+-- so many of the former ones are left, and the one after them is the next
 pub record IsTaken (old left : List PlacedPart) (i : ℕ) (p : PlacedPart) : Type 0 where
   pub count : length left ≡ i
   pub rest : List PlacedPart
@@ -113,7 +113,7 @@ taken_is old front left i p first last few =
           ∙ append_assoc left (p ∷ []) (drop (i + 1) old);
     }
 
--- one slot goes, and there is room for the others
+-- one slot is removed, and there is room for the others
 pub one_less : {X : Type 0} (ss : List X) (s : X) (n m c d : ℕ) → n + length (ss ++ s ∷ []) ≤ c → m ≡ n + 1 → d ≡ c →
     m + length ss ≤ d
 one_less ss s n m c d h e f = omega (arith, h, e, f, length-append ss (s ∷ []))

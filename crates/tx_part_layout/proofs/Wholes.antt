@@ -42,7 +42,7 @@ pub record Ends (width : ℕ) (old : List PlacedPart) (y : Laying) (u : LaidUnit
   pub errors : u.errors ≡ y.unit.errors
   pub items : u.items ≡ y.unit.items
 
--- parts that are laid out have the paragraphs of those that are shown, as they stand in the tree
+-- parts that are laid out have the paragraphs of those that are shown, with their origins in the tree
 in_tree : (ps : List PlacedPart) (qs : List ShownPart) → map laid_from ps ≡ map shown_from qs →
     map laid_paragraphs ps ≡ map own_paragraphs qs → placed_paragraphs ps ≡ flat_map paragraphs_in_tree qs
 in_tree [] [] e f = refl

@@ -1,4 +1,4 @@
--- What is found of what was laid out before.
+-- What is found among the former layouts.
 use Rattle.std.specs.Prelude.{◌≡◌, ℕ, true, false, List, Some, slice_get}
 use Rattle.tx_walk.specs.declared.part.Part.{Part as DonePart}
 use Rattle.tx_items.specs.declared.attributes.Attrs.{Attrs}
@@ -12,7 +12,7 @@ pub record IsAt (old : List PlacedPart) (path : List ℕ) (i : ℕ) : Type 0 whe
   pub stands : part.path ≡ path
   pub is : before_at old path ≡ Some part.laid.value.before
 
--- that of this number was laid out of the part before these attributes
+-- the layout of this number is the part's, with these attributes before it
 pub record IsReused (old : List PlacedPart) (d : DonePart) (a : Attrs) (i : ℕ) : Type 0 where
   pub part : PlacedPart
   pub there : slice_get old i ≡ Some part

@@ -1,4 +1,4 @@
--- What is laid out of the parts of a nested paragraph, each by itself, and of the paragraph by them.
+-- The layouts of the parts of a nested paragraph, each by itself, and that of the paragraph by them.
 use Rattle.std.specs.Prelude.{◌≡◌, ℕ, ◌+◌, Bool, false, not, ◌&&◌, if◌then◌else◌, List, [], ◌∷◌, ◌++◌, map, length}
 use Rattle.std.specs.Prelude.{Option, Some, None}
 use Rattle.std.specs.List.{All, flat_map, sum_by}
@@ -23,7 +23,7 @@ use Rattle.tx_part_layout.specs.declared.laid.LaidUnit.{LaidUnit}
 
 -- ---- a part
 
--- What is laid out of a part is what its value shows, by itself. As a paragraph without an item it has some attributes,
+-- The layout of a part is what its value shows, by itself. As a paragraph without an item it has some attributes,
 -- here `end`.
 pub record IsLaidPart (width : ℕ) (p : LaidPart) : Type 0 where
   pub end : Attrs
@@ -33,7 +33,7 @@ pub record IsLaidPart (width : ℕ) (p : LaidPart) : Type 0 where
   pub blank : p.blank ≡ is_blank (show p.before p.value).form
   pub lines : AreLines width p.paragraphs.items p.lines
 
--- of what a part is laid out: where it stands, its value alone, and the attributes before it
+-- what a part is laid out from: its path, its value alone, and the attributes before it
 pub record LaidFrom : Type 0 where
   pub path : List ℕ
   pub value : WideValue
@@ -58,7 +58,7 @@ put_to path p = record p { path = path }
 abbrev pub laid_paragraphs : PlacedPart → List Paragraph
 laid_paragraphs p = p.laid.value.paragraphs.items
 
--- as they stand in the unit
+-- with their origins in the unit
 abbrev pub paragraphs_placed : PlacedPart → List Paragraph
 paragraphs_placed p = map (paragraph_under p.path) (laid_paragraphs p)
 
@@ -71,17 +71,17 @@ placed_paragraphs ps = flat_map paragraphs_placed ps
 abbrev pub placed_lines : List PlacedPart → List Line
 placed_lines ps = flat_map lines_placed ps
 
--- each part tells how many lines of its unit stand above it, where so many stand above the first
+-- each part has the number of lines of its unit above it, where so many are above the first
 abbrev pub AreBelow : ℕ → List PlacedPart → Type 0
 AreBelow n [] = Unit {0}
 AreBelow n (p ∷ ps) = (p.above ≡ n) × AreBelow (n + length p.laid.value.lines) ps
 
--- ---- what was laid out before
+-- ---- former layouts
 
 abbrev pub laid_paths : List PlacedPart → List (List ℕ)
 laid_paths ps = map (λ p. p.path) ps
 
--- what was laid out of the part, unless it was renewed, is of its value
+-- the former layout of the part, unless it was renewed, is of its value
 abbrev pub IsOfValue : PlacedPart → DonePart → Type 0
 IsOfValue p d = p.path ≡ d.path → d.renewed ≡ false → p.laid.value.value ≡ d.trace.value
 
@@ -90,7 +90,7 @@ same_attrs a b =
     int_eq a.left b.left && int_eq a.right b.right && int_eq a.first b.first && bytes_eq a.series b.series
     && bytes_eq a.shape b.shape && bytes_eq a.color b.color && bytes_eq a.mode b.mode
 
--- the attributes before what was laid out first at the path
+-- the attributes before the first former layout at the path
 abbrev pub before_at : List PlacedPart → List ℕ → Option Attrs
 before_at [] path = None
 before_at (p ∷ ps) path = if bytes_eq p.path path then Some p.laid.value.before else before_at ps path
@@ -99,7 +99,7 @@ abbrev pub is_before : Option Attrs → Attrs → Bool
 is_before None a = false
 is_before (Some b) a = same_attrs b a
 
--- what was laid out of a part before these attributes is used again
+-- the former layout of a part is reused, where these are the attributes before it
 abbrev pub is_reused : List PlacedPart → DonePart → Attrs → Bool
 is_reused old d a = not d.renewed && is_before (before_at old d.path) a
 
@@ -120,7 +120,7 @@ items_anew old (d ∷ ds) (p ∷ ps) =
 abbrev pub whole_shown : Attrs → List DonePart → WideTree → PartsShown
 whole_shown a ds t = parts_shown MOST_LEVELS (λ b. b) a (map done_value ds) t
 
--- This is laid out of a unit whose parts show so. What it has besides its parts stands behind them.
+-- The layout of a unit whose parts show this. What it has besides its parts comes after them.
 pub record IsLaidUnit (width : ℕ) (s : PartsShown) (u : LaidUnit) : Type 0 where
   pub parts : map laid_from u.parts.items ≡ map shown_from s.each
   pub each : All (λ p. IsLaidPart width p.laid.value) u.parts.items
@@ -130,7 +130,7 @@ pub record IsLaidUnit (width : ℕ) (s : PartsShown) (u : LaidUnit) : Type 0 whe
   pub lines : AreLines width (placed_paragraphs u.parts.items ++ u.paragraphs.items)
       (placed_lines u.parts.items ++ u.lines)
 
--- This is laid out of a unit with this value and these parts.
+-- The layout of a unit with this value and these parts.
 pub record ShowsValue (width : ℕ) (a : Attrs) (v : WideValue) (ds : List DonePart) (u : LaidUnit) : Type 0 where
   pub paths : map (λ p. p.path) u.parts.items ≡ map (λ d. d.path) ds
   pub values : map (λ p. p.laid.value.value) u.parts.items ≡ map (λ d. d.trace.value) ds

@@ -21,7 +21,7 @@ abbrev pub given_back_by : List Frame → Attrs → Attrs
 given_back_by [] a = a
 given_back_by (f ∷ fs) a = settings_given_back f.settings.items f.before (given_back_by fs a)
 
--- this is laid out anew at the path, below so many lines of its unit
+-- this layout is new at the path, below so many lines of its unit
 pub record IsNewSlot (old : List PlacedPart) (path : List ℕ) (above : ℕ) (laid : LaidPart) (s : Slot)
     : Type 0 where
   pub between : (j : ℕ) → IsBetween j (length old) s
@@ -31,8 +31,8 @@ pub record IsNewSlot (old : List PlacedPart) (path : List ℕ) (above : ℕ) (la
   pub above_is : part.above ≡ above
   pub laid_is : part.laid.value ≡ laid
 
--- This is laid out of the part, below so many lines of its unit, with these attributes before it, inside these `with`s.
--- What was laid out before stays, if its number is j or above. So many items were laid out anew.
+-- The layout of the part, below so many lines of its unit, with these attributes before it, inside these `with`s. A
+-- former layout is moved only if its number is j or above. So many items were laid out anew.
 pub record IsSlotOf (width : ℕ) (old : List PlacedPart) (d : DonePart) (a : Attrs) (fs : List Frame) (above j : ℕ)
     (s : Slot) (n : ℕ) : Type 0 where
   pub between : IsBetween j (length old) s
@@ -74,7 +74,7 @@ pub record IsAdded (s : Slot) (q : PlacedPart) (x y : Laying) : Type 0 where
   pub rest_lines : y.unit.lines ≡ x.unit.lines
   pub items : y.unit.items ≡ x.unit.items
 
--- Parts that show so were laid out, inside the same `with`s.
+-- Parts that show this were laid out, inside the same `with`s.
 pub record HasLaid (old : List PlacedPart) (parts : List DonePart) (s : PartsShown) (x y : Laying) : Type 0 where
   pub next : y.next ≡ x.next + length s.each
   pub left : left_values parts y.next ≡ s.left

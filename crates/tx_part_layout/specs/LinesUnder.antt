@@ -1,4 +1,4 @@
--- Lines of values that stand deeper by a path: their items have their origins under it.
+-- Lines of values under a path: their items have their origins under it.
 use Rattle.std.specs.Prelude.{ℕ, List, map}
 use Rattle.tx_part_items.specs.ItemsUnder.{item_under}
 use Rattle.tx_layout.specs.declared.layout.Line.{Line}

@@ -1,4 +1,4 @@
-// What was laid out of a part before.
+// The former layout of a part.
 ghost use Rattle.std.specs.Prelude.{◌≡◌, ◌<◌, None, MatchOption, IsTrue, length, false};
 ghost use Rattle.std.specs.List.{IsDistinct};
 ghost use Rattle.std.specs.Str.{bytes_eq};
@@ -11,7 +11,7 @@ use tx_items::Attrs;
 use tx_tree::Path;
 use tx_walk::Part;
 
-// Whether it was laid out of the part at this path.
+// Whether it is the layout of the part at this path.
 fn stands_at(placed: &PlacedPart, path: &Path) -> bool
     ensures { result ≡ bytes_eq placed.now.path path.now }
 {
@@ -45,7 +45,7 @@ fn number_near(old: &[PlacedPart], path: &Path, hint: usize) -> Option<usize>
     number_at(old, path)
 }
 
-// Whether the part of this number, if there is one, stands at the path.
+// Whether the part of this number, if there is one, is at the path.
 fn is_at(old: &[PlacedPart], path: &Path, hint: usize) -> bool
     ensures { IsTrue result → hint < length old.now }
 {
@@ -55,8 +55,8 @@ fn is_at(old: &[PlacedPart], path: &Path, hint: usize) -> bool
     }
 }
 
-/// The number of what was laid out of the part before these attributes, if it wasn't renewed. The number that is likely
-/// next is kept in `near`.
+/// The number of the former layout of the part with these attributes before it, if it wasn't renewed. `near` is the
+/// number that is likely next.
 pub(crate) fn reused(
     old: &[PlacedPart],
     part: &Part,

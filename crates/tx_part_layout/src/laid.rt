@@ -11,14 +11,14 @@ use tx_items::{Attrs, ErrorAt, Paragraph};
 use tx_origin::Value;
 use tx_tree::Path;
 
-/// What a part shows by itself. All places in it begin at the part, so that it stays where the part moves.
+/// What a part shows by itself. All places in it begin at the part, so it is unchanged where the part moves.
 #[derive(Drop)]
 pub struct LaidPart {
     /// Its value.
     pub value: Value,
     /// The attributes before it.
     pub before: Attrs,
-    /// The attributes behind it.
+    /// The attributes after it.
     pub after: Attrs,
     /// It shows in a line, without an item.
     pub blank: bool,
@@ -31,13 +31,13 @@ pub struct LaidPart {
     pub lines: LineList,
 }
 
-/// What each layout of a unit asks of a part. It stands beside the part's place, so that parts that stay are gone over
-/// in a row, and what they show isn't touched.
+/// What each layout of a unit asks of a part. It is stored beside the part's place, so reused parts are gone through in
+/// a row, without access to what they show.
 #[derive(Drop)]
 pub struct Brief {
     /// The attributes before it.
     pub before: Attrs,
-    /// The attributes behind it are those before it. False says nothing.
+    /// The attributes after it are those before it. False says nothing.
     pub plain: bool,
     /// How many lines it has.
     pub rows: u64,
@@ -54,13 +54,13 @@ pub struct Brief {
 /// A part in its place.
 #[derive(Drop)]
 pub struct PlacedPart {
-    /// Where it stands, from the tree of the unit.
+    /// Its path, from the tree of the unit.
     pub path: Path,
-    /// How many lines of its unit stand above it.
+    /// How many lines of its unit are above it.
     pub above: u64,
     /// What it shows.
     pub laid: Rc<LaidPart>,
-    /// That in brief.
+    /// What it shows, in brief.
     pub brief: Brief,
     ghost before: { brief.before ≡ laid.value.before },
     ghost plain: { brief.plain ≡ true → laid.value.after ≡ laid.value.before },
@@ -87,7 +87,7 @@ pub struct LaidUnit {
 }
 
 impl LaidPart {
-    // It in brief.
+    // Its brief.
     fn brief(&self) -> Result<Brief, Memory>
         ensures before { IfOk result (λ b. b.before ≡ self.now.before) }
         ensures plain { IfOk result (λ b. b.plain ≡ true → self.now.after ≡ self.now.before) }
@@ -110,7 +110,7 @@ impl LaidPart {
 }
 
 impl Brief {
-    // The same.
+    // A copy.
     fn copy(&self) -> Result<Brief, Memory>
         ensures { IfOk result (λ b. b ≡ self.now) }
     {
@@ -142,7 +142,7 @@ impl PlacedPart {
         })
     }
 
-    /// The same at another path. It shares what it shows.
+    /// A copy at another path, which shares what it shows.
     pub fn at(&self, path: Path) -> Result<PlacedPart, Memory>
         ensures path { IfOk result (λ p. p.path ≡ path) }
         ensures above { IfOk result (λ p. p.above ≡ self.now.above) }

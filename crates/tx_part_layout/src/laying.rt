@@ -30,26 +30,26 @@ use tx_tree::Tree;
 use tx_view_form::weight_laws;
 use tx_walk::{Descent, Part, descent_of};
 
-/// How far a unit is laid out.
+/// The progress of a unit's layout.
 #[derive(Drop)]
 pub(crate) struct Laying {
-    /// The attributes behind what is laid out.
+    /// The attributes after what is laid out.
     pub attrs: Attrs,
     /// The `with`s round the next part, up to the nearest `document`, the outer first.
     pub frames: Vec<Frame>,
     /// The number of the next part.
     pub next: usize,
-    /// The number of what was laid out before that is likely next.
+    /// The number of the former layout that is likely next.
     pub near: usize,
-    /// The number behind what stays so far of what was laid out before.
+    /// The number after the former layouts that are reused so far.
     pub free: usize,
     /// How many lines are laid out.
     pub rows: u64,
     /// Whether a part has a paragraph.
     pub some: bool,
-    /// What is laid out of the parts before that one.
+    /// The layouts of the parts before the next one.
     pub slots: Vec<Slot>,
-    /// What is laid out besides. Its parts come at the end.
+    /// The rest of the unit's layout. Its parts are put in at the end.
     pub unit: LaidUnit,
 }
 
@@ -88,7 +88,7 @@ impl Laying {
     }
 }
 
-// Puts the same errors behind the others.
+// Puts copies of the errors after the others.
 fn add_errors(errors: &[ErrorAt], all: &mut Vec<ErrorAt>) -> Result<(), Memory>
     ensures { OnOk result (all.new.items ≡ all.old.items ++ errors.now) }
 {
@@ -101,7 +101,7 @@ fn add_errors(errors: &[ErrorAt], all: &mut Vec<ErrorAt>) -> Result<(), Memory>
     Ok(())
 }
 
-// Goes behind a part that is laid out.
+// Goes past a part that is laid out.
 fn pass(part: &PlacedPart, laying: &mut Laying) -> Result<(), Memory>
     requires few { laying.old.rows + length part.now.laid.value.lines < 2 ^ 63 }
     requires before { part.now.laid.value.before ≡ laying.old.attrs }
@@ -130,7 +130,7 @@ fn pass(part: &PlacedPart, laying: &mut Laying) -> Result<(), Memory>
     Ok(())
 }
 
-// This part stays, which has the number i among those that were laid out before, below so many lines.
+// Adds this part below so many lines. It is reused, and has the number i among the former ones.
 fn add_again(part: &PlacedPart, i: usize, above: u64, laying: &mut Laying) -> Result<(), Memory>
     requires number { i < 2 ^ 63 }
     requires few { laying.old.rows + length part.now.laid.value.lines < 2 ^ 63 }
@@ -143,7 +143,7 @@ fn add_again(part: &PlacedPart, i: usize, above: u64, laying: &mut Laying) -> Re
     Ok(())
 }
 
-// This part is new.
+// Adds this part, which is new.
 fn add_anew(part: Box<PlacedPart>, laying: &mut Laying) -> Result<(), Memory>
     requires few { laying.old.rows + length part.value.laid.value.lines < 2 ^ 63 }
     requires before { part.value.laid.value.before ≡ laying.old.attrs }
@@ -154,7 +154,7 @@ fn add_anew(part: Box<PlacedPart>, laying: &mut Laying) -> Result<(), Memory>
     Ok(())
 }
 
-// Puts what is laid out of a part behind what is laid out of the others.
+// Puts the layout of a part after those of the others.
 fn add_slot(old: &[PlacedPart], slot: Slot, laying: &mut Laying) -> Result<(), Memory>
     requires few { (q : Placed) → slot_part old.now slot ≡ Some q
         → laying.old.rows + length q.laid.value.lines < 2 ^ 63 }
@@ -326,7 +326,7 @@ fn lay_child<L: Ledger>(
     Ok(())
 }
 
-// Lays the children of a `document` out, one behind the other.
+// Lays the children of a `document` out, in order.
 #[cycle(lay)]
 fn lay_children<L: Ledger>(
     alloc: Global,

@@ -1,5 +1,4 @@
-//! A nested paragraph is laid out by its parts, and what was laid out of a part before is used again where it still
-//! holds.
+//! A nested paragraph is laid out by its parts. The former layout of a part is reused where it still holds.
 #![tactic(auto)]
 
 mod attributes;

@@ -75,7 +75,7 @@ impl LineList {
         !self.marked
     }
 
-    /// Tells the paginator these lines. For want of memory those told before are told.
+    /// Gives the paginator these lines. After `Memory` it has only those that it was given before.
     pub fn tell(&self, paginator: &mut Paginator) -> Result<(), Memory>
         requires few { lines_told paginator.old + length self.now < 2 ^ 32 }
         ensures told { OnOk result ((before : List Shape) (height : ℕ) → HasTold before height paginator.old

@@ -30,7 +30,7 @@ use tx_origin::Value;
 use tx_view_form::weight_laws;
 use tx_walk::Part;
 
-/// The lines of paragraphs, one paragraph after the other. The steps rise by the number of items.
+/// The lines of paragraphs, in order. The steps rise by the number of items.
 pub fn lines_of<L: Ledger>(
     alloc: Global,
     paragraphs: &[Paragraph],
@@ -65,8 +65,8 @@ pub fn item_count(paragraphs: &[Paragraph]) -> u64
     count
 }
 
-// The paragraph of a part that shows in a line without an item, where these are the attributes behind it, and the
-// `with`s inside which it stands.
+// The paragraph of a part that shows in a line without an item, where these are the attributes after it, and the
+// `with`s round it.
 fn blank_paragraphs(
     alloc: Global,
     after: &Attrs,
@@ -81,7 +81,8 @@ fn blank_paragraphs(
     Ok(all)
 }
 
-// The paragraphs of a part, where these are its own with the attributes behind it, if it is blank.
+// The paragraphs of a part, where these are its own. A blank part has one, with the attributes after the part, of which
+// the `with`s have given back what they set.
 fn ended_paragraphs(
     alloc: Global,
     blank: bool,
@@ -98,7 +99,7 @@ fn ended_paragraphs(
     Ok(own)
 }
 
-// What a part with this value shows, where these are the attributes before it, and the `with`s inside which it stands.
+// What a part with this value shows, where these are the attributes before it, and the `with`s round it.
 fn laid_anew<L: Ledger>(
     alloc: Global,
     value: Value,
@@ -135,7 +136,7 @@ fn laid_anew<L: Ledger>(
     })
 }
 
-// The same, of a part that was evaluated. Answers also how many items were laid out.
+// What a part shows, by the value of its trace. Returns also how many items were laid out.
 fn new_laid<L: Ledger>(
     alloc: Global,
     part: &Part,
@@ -165,7 +166,7 @@ fn new_laid<L: Ledger>(
     Ok((Rc::new(alloc, laid)?, items))
 }
 
-// The same errors.
+// A copy of the errors.
 fn same_errors(alloc: Global, errors: &[ErrorAt]) -> Result<Vec<ErrorAt>, Memory>
     ensures { IfOk result (λ es. es.items ≡ errors.now) }
 {
@@ -179,7 +180,7 @@ fn same_errors(alloc: Global, errors: &[ErrorAt]) -> Result<Vec<ErrorAt>, Memory
     Ok(all)
 }
 
-// What was laid out of a part that shows in a line without an item, inside these `with`s.
+// The layout of a part that shows in a line without an item, inside these `with`s, by a former layout.
 fn blank_again<L: Ledger>(
     alloc: Global,
     laid: &LaidPart,
@@ -213,7 +214,7 @@ fn blank_again<L: Ledger>(
     })
 }
 
-// A law: what was laid out of a part that isn't blank is the same inside any `with`s.
+// A law: the layout of a part that isn't blank is the same inside any `with`s.
 fn unblank_law(laid: &LaidPart, frames: &[Frame], width: u32)
     requires laid { IsLaidPart width laid.now }
     requires unblank { laid.now.blank ≡ false }
@@ -221,7 +222,7 @@ fn unblank_law(laid: &LaidPart, frames: &[Frame], width: u32)
         (given_back_by frames.now (show laid.now.before laid.now.value).after) }
 {}
 
-// This at the part's path, below so many lines of its unit.
+// This layout at the part's path, below so many lines of its unit.
 fn new_slot(alloc: Global, part: &Part, above: u64, laid: Rc<LaidPart>) -> Result<Slot, Memory>
     ensures { IfOk result (λ s. (old : List Placed) → IsNewSlot old part.now.path above laid.value s) }
 {
@@ -230,8 +231,8 @@ fn new_slot(alloc: Global, part: &Part, above: u64, laid: Rc<LaidPart>) -> Resul
     Ok(Slot::Anew(Box::new(alloc, placed)?))
 }
 
-// What is laid out of a part inside these `with`s, below so many lines of its unit, where that of this number was laid
-// out of it before these attributes. It is the same, unless the part is blank, and stays where its number is free.
+// The layout of a part inside these `with`s, below so many lines of its unit, where the former layout of this number is
+// reused. It is unchanged, unless the part is blank. It is moved where its number is free, and else shared.
 fn again<L: Ledger>(
     alloc: Global,
     part: &Part,
@@ -265,7 +266,7 @@ fn again<L: Ledger>(
     Ok(Slot::Again(i, above))
 }
 
-// The same, where nothing that was laid out of the part before can be used.
+// The layout of a part, where no former layout of it can be reused. Returns also how many items were laid out.
 fn anew<L: Ledger>(
     alloc: Global,
     part: &Part,
@@ -288,8 +289,8 @@ fn anew<L: Ledger>(
     Ok((slot, items))
 }
 
-/// What is laid out of a part below so many lines of its unit, before these attributes, inside these `with`s. What was
-/// laid out before may stay from number `free` on. Answers also how many items were laid out anew.
+/// The layout of a part below so many lines of its unit, with these attributes before it, inside these `with`s. Former
+/// layouts from number `free` on may be moved. Returns also how many items were laid out anew.
 pub(crate) fn next_slot<L: Ledger>(
     alloc: Global,
     part: &Part,

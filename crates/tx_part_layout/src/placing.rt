@@ -7,14 +7,14 @@ use crate::laid::PlacedPart;
 use tx_tree::Path;
 
 impl PlacedPart {
-    /// It stands at this path now.
+    /// Puts it at this path.
     pub fn put(&mut self, path: Path)
         ensures { self.new ≡ put_to path self.old }
     {
         self.path = path;
     }
 
-    /// It stands below so many lines of its unit now.
+    /// Puts it below so many lines of its unit.
     pub(crate) fn put_below(&mut self, above: u64)
         ensures { self.new ≡ put_below above self.old }
     {

@@ -1,4 +1,4 @@
-// The names and texts of a `with`, and what is given back behind it.
+// The names and texts of a `with`, and what is given back after it.
 ghost use Rattle.std.specs.Prelude.{◌≡◌, Some, IfOk, OnOk};
 ghost use Rattle.tx_tree.specs.WideTree.{WideTree, children_of};
 ghost use Rattle.tx_parts.specs.Openness.{Settings as TextSettings, With, openness, settings_in};
@@ -11,7 +11,7 @@ use tx_items::Attrs;
 use tx_tree::{Text, Tree};
 use tx_walk::text_at;
 
-/// A `with` inside which parts stand: its names and texts in order, and the attributes before it.
+/// A `with` round parts: its names and texts in order, and the attributes before it.
 #[derive(Drop)]
 pub(crate) struct Frame {
     pub(crate) settings: Vec<(Text, Text)>,

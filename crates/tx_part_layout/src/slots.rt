@@ -1,4 +1,4 @@
-// What is laid out of the parts of a unit: what was laid out before, or something new.
+// The layouts of the parts of a unit: former or new ones.
 ghost use Rattle.std.specs.Prelude.{◌≡◌, ◌+◌, ◌≤◌, ◌<◌, ◌++◌, [], length, reverse, IfOk, OnErr};
 ghost use Rattle.std.specs.Vec.{vec_len, vec_capacity};
 ghost use Rattle.tx_part_layout.specs.Slots.{AreRising, placed_by};
@@ -8,16 +8,16 @@ use std::alloc::Global;
 use std::mem;
 use tx_base::Memory;
 
-/// What is laid out of a part.
+/// The layout of a part.
 #[derive(Drop)]
 pub(crate) enum Slot {
-    /// What was laid out before of the part of this number, below so many lines of the unit.
+    /// The former layout of this number, below so many lines of the unit.
     Again(usize, u64),
-    /// This.
+    /// This new layout.
     Anew(Box<PlacedPart>),
 }
 
-// What is laid out of the parts, the last first. What stays is moved out of what was laid out before.
+// The layouts of the parts, the last first. Those that are reused are moved out of the former ones.
 fn from_last(former: Vec<PlacedPart>, told: Vec<Slot>, room: Vec<PlacedPart>) -> Vec<PlacedPart>
     requires rising { AreRising (length former.items) 0 told.items }
     requires nothing { room.items ≡ [] }
@@ -44,8 +44,8 @@ fn from_last(former: Vec<PlacedPart>, told: Vec<Slot>, room: Vec<PlacedPart>) ->
     all
 }
 
-/// What is laid out of the parts, in order. What stays is moved out of what was laid out before, of which nothing is
-/// left. For want of memory that is as it was.
+/// The layouts of the parts, in order. Those that are reused are moved out of the former ones, of which nothing is
+/// left. After `Memory` the former ones are unchanged.
 pub(crate) fn put_together(
     alloc: Global,
     former: &mut Vec<PlacedPart>,

@@ -1,4 +1,4 @@
-// Laws of lines that stand deeper by a path.
+// Laws of lines under a path.
 ghost use Rattle.std.specs.Prelude.{ℕ, List, ◌++◌, map};
 ghost use Rattle.tx_items.specs.declared.drawing.Paragraph.{Paragraph};
 ghost use Rattle.tx_layout.specs.declared.layout.Line.{Line};
@@ -8,8 +8,8 @@ ghost use Rattle.tx_view_form.specs.Views.{AreLines};
 ghost use Rattle.tx_part_items.specs.ItemsUnder.{paragraph_under};
 ghost use Rattle.tx_part_layout.specs.LinesUnder.{line_under};
 
-/// A law: paragraphs whose items have their origins under a path have the lines of before, with their items' origins
-/// under the path; and pages are cut of these as of those.
+/// A law: paragraphs whose items have their origins under a path have the lines that they have without it, with their
+/// items' origins under the path. Pages are cut of these lines as of those.
 pub fn lines_under_law()
     ensures lines { (base : List ℕ) (width : ℕ) (ps : List Paragraph) (ls : List Line) → AreLines width ps ls
         → AreLines width (map (paragraph_under base) ps) (map (line_under base) ls) }

@@ -28,10 +28,10 @@ use tx_part_items::parts_shown_law;
 use tx_tree::Tree;
 use tx_walk::Part;
 
-/// Lays a unit out by its parts, where these are its tree and its parts in order, and the attributes before it. What
-/// was laid out before of a part that isn't renewed is used again where the attributes before it are the same: it is
-/// moved out of `former`, of which nothing is left. A page is 20 to 500 cells wide. The one error is want of memory:
-/// what was laid out before stays then.
+/// Lays a unit out by its parts, where these are its tree and its parts in order, and the attributes before it. The
+/// former layout of a part that isn't renewed is reused where the attributes before it are the same. It is moved out of
+/// `former`, of which nothing is left. A page is 20 to 500 cells wide. The one error is `Memory`: `former` is unchanged
+/// then.
 pub fn lay_parts<L: Ledger>(
     alloc: Global,
     tree: &Tree,

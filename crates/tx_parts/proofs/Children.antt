@@ -1,4 +1,4 @@
--- A `document` comes to what its children come to, each behind those before it.
+-- A `document` evaluates to what its children evaluate to, each after those before it.
 use Rattle.std.proofs.Common.{◌≡◌, ℕ, suc, ◌+◌, ◌-◌, ◌≤◌, min, max, List, [], ◌∷◌, ◌++◌, ap, subst, refl, ◌∙◌}
 use Rattle.std.proofs.Common.{arith}
 use Rattle.std.specs.Prelude.{Bool, true, false, nat_le, if◌then◌else◌, Option, Some, None, option_and_then, codes}
@@ -83,7 +83,7 @@ children_within k tracer bounds c i a (t ∷ ts) e b h q =
 
 -- ---- the run of the children
 
--- the state behind what children came to, which had k levels and c steps
+-- the state after children with these traces, which had k levels and c steps
 abbrev pub state_behind : ℕ → ℕ → SoFar → State
 state_behind k c a = record { own = a.writes; looks = a.looks; left = c - a.cost; slack = k - a.height }
 

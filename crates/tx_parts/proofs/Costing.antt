@@ -202,7 +202,7 @@ sizes_front (y ∷ ys) xs [] = omega arith
 sizes_front (y ∷ ys) xs (v ∷ []) = omega arith
 sizes_front (y ∷ ys) xs (u ∷ v ∷ vs) = omega (arith, sizes_front ys xs vs)
 
--- those behind the names ys, where names and trees from here on come to b
+-- those after the names ys, where names and trees from here on evaluate to b
 abbrev NodesBehind : ℕ → ℕ → ℕ → List Name → List Name → List WideTree → Before → SoFar → Type 0
 NodesBehind k c i ys xs ts e b = (a : SoFar) → length a.values ≡ 2 * length ys →
     children_from (evaluates_bare k) c i a (in_turn xs ts) e ≡ Some b →

@@ -120,7 +120,7 @@ module _ (k : ℕ) (finder : Finder) (below : FitBelow k finder) where
           (sym again)
           (go (with_child i a f.trace) (both_agree e a.writes a.looks f.trace.looks before here) f.others)))
 
-  -- a `document` that isn't over
+  -- a `document` that has a trace
   document_fits : (c n : ℕ) (path : List ℕ) (ts : List WideTree) (t : WideTree) (e d : Before) (trace : WideTrace)
       (b : Bool) (o : Option SoFar) → children_from (evaluates k) (c - 1) 0 nothing_yet ts e ≡ o →
       (if b then option_map document_trace o else None) ≡ Some trace → Agrees d trace.looks → trace.cost ≤ n →
@@ -133,7 +133,7 @@ module _ (k : ℕ) (finder : Finder) (below : FitBelow k finder) where
   document_fits c n path ts t e d trace true None q h g enough = cc
   document_fits c n path ts t e d trace false o q h g enough = cc
 
-  -- a `with` that isn't over
+  -- a `with` that has a trace
   with_fits : (c n : ℕ) (path : List ℕ) (ps : Settings) (u t : WideTree) (e d : Before) (trace : WideTrace)
       (b : Bool) (o : Option WideTrace) → evaluates k (c - (1 + settings_cost ps)) u (env_atop (set_by ps) e) ≡ o →
       (if b then option_map (with_trace ps) o else None) ≡ Some trace → Agrees d trace.looks → trace.cost ≤ n →
@@ -183,7 +183,7 @@ pub bare_again : (k c n : ℕ) (t : WideTree) (e d : Before) (trace : WideTrace)
 bare_again k c n t e d trace h g enough =
     supports k c (bare t) e trace h k n d g enough (allowed k c (bare t) e trace h).1
 
--- their looks agree, and where they agree with another environment they come to the same there
+-- their looks agree, and in each environment that agrees with these looks the children evaluate to the same
 pub record Again (k n i : ℕ) (a : SoFar) (ts : List WideTree) (e : Before) (b : SoFar) : Type 0 where
   pub agrees : Agrees e b.looks
   pub again : (d : Before) → Agrees d b.looks → b.cost ≤ n →
@@ -325,7 +325,7 @@ in_again (suc k) (l ∷ ls) i c n t e d trace h g enough =
         u.cost ≤ o → evaluates_in k ls i o t y ≡ Some u) → evaluates_in (suc k) (l ∷ ls) i n t d ≡ Some trace
     by z go = by_there z (layer_there k n l ls i c t e d trace z g enough) go
 
--- what the layer's trees come to there
+-- what the layer's trees evaluate to there
 pub values_there : (k : ℕ) (l : Layer) (ls : List Layer) (i c n : ℕ) (t : WideTree) (e d : Before)
     (trace : WideTrace) → evaluates_in (suc k) (l ∷ ls) i c t e ≡ Some trace → Agrees d trace.looks →
     trace.cost ≤ n → layer_values k l n d ≡ layer_values k l c e

@@ -1,4 +1,4 @@
--- A layer comes to its trees and to what is inside, where what they came to is set.
+-- A layer evaluates to its trees' values and to the value of what is inside, where its names are set to those values.
 use Rattle.std.proofs.Common.{◌≡◌, ℕ, zero, suc, ◌+◌, ◌-◌, ◌≤◌, min, max, List, [], ◌∷◌, ◌++◌, ap, refl, ◌∙◌, arith}
 use Rattle.std.specs.Prelude.{Bool, true, false, nat_le, if◌then◌else◌, Option, Some, None, option_and_then, codes}
 use Rattle.std.specs.Option.{option_map}
@@ -55,7 +55,7 @@ module _ (k : ℕ) (ls : List Layer) (i : ℕ) (t : WideTree) (e : Before) (xs :
   abbrev old : Sets
   old = kept_of (as_sets ps) z.writes
 
-  -- what the row does behind the last child
+  -- what the row does after the last child
   abbrev then_back : WideValue → Run WideValue
   then_back v = set_all old >> give (made (codes "with") (vals (z.values ++ v ∷ [])) None)
 

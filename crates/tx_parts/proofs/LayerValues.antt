@@ -1,4 +1,4 @@
--- The names and the trees of a layer come to their values in order, and then the row's last child begins.
+-- The names and the trees of a layer are evaluated in order, and then the row's last child begins.
 use Rattle.std.proofs.Common.{◌≡◌, ℕ, zero, suc, ◌+◌, ◌*◌, ◌-◌, ◌≤◌, List, [], ◌∷◌, ◌++◌, length, map, ap, refl, sym}
 use Rattle.std.proofs.Common.{◌∙◌}
 use Rattle.std.proofs.Common.{arith}
@@ -26,7 +26,7 @@ use Rattle.tx_parts.proofs.Running.{none_there, fresh, text_then}
 use Rattle.tx_parts.proofs.Children.{IsWithin, tagged_within, state_behind, one_more}
 use Rattle.tx_parts.proofs.Layers.{layer_eval}
 
--- ---- a text comes to itself
+-- ---- a text evaluates to itself
 
 done_give : (e : Before) (r : Ran WideValue) → on_done e give r ≡ r
 done_give e Over = refl
@@ -135,7 +135,7 @@ module _ (k c : ℕ) (ls : List Layer) (b : TaggedTree) (e : Before) where
   bodies_at xs None = Over
   bodies_at xs (Some z) = body_at xs z
 
-  -- behind the children before
+  -- after the children before
   abbrev NextAre : ℕ → List Name → List Name → List WideTree → SoFar → Type 0
   NextAre i done xs ts a =
       row_at a.values (as_sets (layer_pairs done a.values)) (map bare (in_turn xs ts) ++ b ∷ []) e
@@ -152,7 +152,7 @@ module _ (k c : ℕ) (ls : List Layer) (b : TaggedTree) (e : Before) where
     abbrev sets : Sets
     sets = as_sets (layer_pairs done a.values)
 
-    -- behind the name and the tree
+    -- after the name and the tree
     abbrev then_rest : WideValue → WideValue → Run WideValue
     then_rest name v = row_at (a.values ++ name ∷ v ∷ []) (sets ++ (x, Some (plain v)) ∷ []) rest
 

@@ -1,4 +1,4 @@
--- A tree in layers in the whole is what its trace says.
+-- A tree in layers does in the whole what its trace says.
 use Rattle.std.proofs.Common.{◌≡◌, ℕ, zero, suc, ◌-◌, ◌≤◌, List, [], ◌∷◌, ◌++◌, map, ap, subst, refl, sym, ◌∙◌, arith}
 use Rattle.std.specs.Prelude.{Option, Some, None, codes}
 use Rattle.tx_tree.specs.WideTree.{WideTree}
@@ -15,7 +15,7 @@ use Rattle.tx_parts.specs.Atop.{env_atop}
 use Rattle.tx_origin.specs.Under.{origin_under, tree_under, value_under}
 use Rattle.tx_parts.specs.Adding.{part_ran}
 use Rattle.tx_parts.specs.Shells.{Layer, bare, in_turn, by_origin, in_layers}
-use Rattle.tx_parts.proofs.UnderValues.{frame_under}
+use Rattle.tx_parts.specs.InFrames.{frame_under}
 use Rattle.tx_parts.proofs.Shifting.{ran_added, Shifts, next, needs, pays, overs, with_rows, ex_shifts}
 use Rattle.tx_parts.proofs.PartRuns.{begun}
 
@@ -59,7 +59,7 @@ module _ (w : NameMap) (l : LookMap) (n : ℕ) (base : List ℕ) where
 
 -- ---- from the start
 
--- what a run with this trace comes to, where it has k levels and c steps at first
+-- the result of a run with this trace, where it has k levels and c steps at first
 abbrev pub ran_of : ℕ → ℕ → Option WideTrace → Ran WideValue
 ran_of k c None = Over
 ran_of k c (Some trace) = Done trace.value (record {

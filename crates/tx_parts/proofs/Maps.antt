@@ -166,7 +166,7 @@ pub atop_set : (later earlier : NameMap) (x : Name) (t : WideTree) →
     atop (insert later x t) earlier ≡ insert (atop later earlier) x t
 atop_set later earlier x t = atop_pair x (Some t) later earlier
 
--- ---- what stands at names that aren't set
+-- ---- what a map has at names that aren't set
 
 pub past_nothing : (own : NameMap) → past own (empty {X = WideTree}) ≡ empty
 past_nothing own = same (past own empty) empty (λ q.

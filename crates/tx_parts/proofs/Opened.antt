@@ -1,4 +1,5 @@
--- A tag with a shell comes to what its child comes to in the layers. So each tree is composed of its parts.
+-- A tag with a shell evaluates to what its child evaluates to in the layers. By induction, the trace of each tree is
+-- composed of those of its parts.
 use Rattle.std.proofs.Common.{◌≡◌, ℕ, zero, suc, ◌+◌, ◌-◌, ◌≤◌, min, max, List, [], ◌∷◌, ap, refl, sym, ◌∙◌, arith}
 use mathlib.Core.Path.{fun_ext}
 use Rattle.std.specs.Prelude.{Bool, true, false, nat_le, if◌then◌else◌, Option, Some, None, option_and_then, slice_get}

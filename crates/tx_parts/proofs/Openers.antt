@@ -1,4 +1,4 @@
--- An opener tells of each tag what is so wherever names have the same, as far as the tag's evaluation looks them up.
+-- An opener gives for each tag the same shell in all environments that agree with the looks of the tag's evaluation.
 use Rattle.std.proofs.Common.{◌≡◌, ℕ, zero, suc, ◌-◌, Bool, true, false, List, [], ap, subst, refl, sym, ◌∙◌, arith}
 use mathlib.Core.Path.{fun_ext}
 use Rattle.std.specs.Prelude.{Option, Some, None, ◌&&◌, not, is_some, nat_le, if◌then◌else◌, option_and_then}
@@ -88,7 +88,7 @@ module _ (k c : ℕ) (label : List ℕ) (ts : Forest) (e d : Before) where
       ∙ ap (λ o. on_done e (tag_found (suc k) (ex k) label (Some []) (kids_from (Some []) 0 ts) top)
       (from_own label o e (fresh (c - 1) k))) (get-empty (slice_cmp nat_cmp) label)
 
-  -- what is found behind the look looks up more
+  -- what is done after the look at the label adds to the looks
   abbrev IsLookedBefore : Ran WideValue → Type 0
   IsLookedBefore Over = Unit {0}
   IsLookedBefore (Done v s) = Agrees d s.looks → Agrees d noted_label

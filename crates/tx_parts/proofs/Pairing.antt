@@ -51,7 +51,7 @@ set_is m (w ∷ ws) q h =
     ∙ ap (option_or (find (slice_cmp nat_cmp) q ws)) (get-insert nat_list_cmp_total m w.0 w.1 q)
     ∙ set_first q w.0 w.1 (λ x. find (slice_cmp nat_cmp) x ws) (get m q) (tied q w.0) refl (not_among w.0 ws h.0)
 
--- pairs that are set in an environment stand atop it
+-- pairs that are set in an environment override it
 pub overlaid_is : (m : NameMap) (ws : List (Name × WideTree)) → IsDistinct bytes_eq (keys_of ws) →
     get (overlaid m ws) ≡ env_atop (from_entries ws) (get m)
 overlaid_is m ws h = fun_ext (λ q.

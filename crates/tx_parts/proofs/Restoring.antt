@@ -54,7 +54,7 @@ over_at (p ∷ ps) m q =
     ∙ ap (λ o. option_or o (get m q)) (sym (over_at ps (insert empty p.0 p.1) q
     ∙ ap (option_or (get (overlaid empty ps) q)) (get-insert nat_list_cmp_total empty p.0 p.1 q)))
 
--- what is set stands atop what was set before
+-- what is set overrides what was set before
 pub set_atop : (ps : Pairs) (m : NameMap) → set_in (as_sets ps) m ≡ atop (overlaid empty ps) m
 set_atop ps m = overlaid_sets ps m ∙ same (overlaid m ps) (atop (overlaid empty ps) m)
     (λ q. over_at ps m q ∙ sym (get_atop (overlaid empty ps) m q))
@@ -114,7 +114,7 @@ behind_at (Some t) w m false h = cc
 behind_at None w m true h = cc
 behind_at None w m false h = refl
 
--- what is set inside stays at names that the layer doesn't set, and those have what they had before
+-- what is set inside survives at names that the layer doesn't set, and the layer's names have again what they had
 pub again_is : (ps : Pairs) (before w : NameMap) →
     set_in (kept_of (as_sets ps) before) (atop w (atop (overlaid empty ps) before)) ≡
     atop (past (overlaid empty ps) w) before
@@ -172,7 +172,7 @@ sets_of ps = as_sets (setting_pairs ps)
 pub set_by_is : (ps : Settings) → set_in (sets_of ps) empty ≡ set_by ps
 set_by_is ps = overlaid_sets (setting_pairs ps) empty
 
--- what the inner tree has set stays, at names that aren't set round it
+-- what the inner tree has set survives at names that the settings don't set
 pub restored_is : (ps : Settings) (w : NameMap) →
     set_in (kept_of (sets_of ps) empty) (atop w (set_by ps)) ≡ past (set_by ps) w
 restored_is ps w =

@@ -48,7 +48,7 @@ module _ (k c : ℕ) (label : List ℕ) (ts : Forest) (e : Before) where
   abbrev pub row_alone : Run WideValue
   row_alone = row (row_of label) (suc k) (ex k) (ex_all k) (alone (node label ts)) label (kids_from (Some []) 0 ts) top
 
-  -- a node alone: its row behind its level and its step
+  -- a node alone: its row after its level and its step
   pub node_start : ex (suc k) (alone (node label ts)) top e (start (suc k) c) ≡
       (if nat_le 1 c then row_alone e (fresh (c - 1) k) else Over)
   unfolding ex node_run

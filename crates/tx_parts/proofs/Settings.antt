@@ -1,4 +1,4 @@
--- An open `with` comes to its texts and to what its inner tree comes to where they are set.
+-- An open `with` evaluates to its texts and to what its inner tree evaluates to where they are set.
 use Rattle.std.proofs.Common.{◌≡◌, ℕ, zero, suc, ◌+◌, ◌*◌, ◌-◌, ◌≤◌, ◌<◌, ◌⊎◌, inl, inr, min, List, [], ◌∷◌, ◌++◌}
 use Rattle.std.proofs.Common.{length}
 use Rattle.std.proofs.Common.{ap, refl, sym, ◌∙◌, arith}
@@ -157,7 +157,7 @@ costs_are (p ∷ ps) =
     let rest : settings_cost ps ≡ texts_cost ps + sizes (sets_of ps) = costs_are ps in
     omega (arith, rest)
 
--- what comes behind the first setting
+-- what comes after the first setting
 pub record Behind (x words : List ℕ) (o : Option (Settings × WideTree)) (p : Settings × WideTree) : Type 0 where
   pub others : Settings × WideTree
   pub found : o ≡ Some others
@@ -186,7 +186,7 @@ module _ (j : ℕ) (label : List ℕ) (e : Before) where
   body_at i vs qs b left z =
       with_body (ex (suc j)) top label (Some []) vs qs (record { tree = b; at = Some (i ∷ []) }) e (fresh left z)
 
-  -- the inner tree behind the texts
+  -- the inner tree after the texts
   abbrev pub behind_texts : ℕ → List WideValue → Sets → Settings × WideTree → ℕ → ℕ → Ran WideValue
   behind_texts i vs qs p left z =
       if nat_le (texts_cost p.0) left

@@ -1,4 +1,4 @@
--- Evaluation in the whole is evaluation alone, seen in the whole: behind what was set and looked up before, with the
+-- Evaluation in the whole is evaluation alone, seen in the whole: after what was set and looked up before, with the
 -- origins under a path.
 use Rattle.std.proofs.Common.{◌≡◌, ℕ, zero, suc, ◌-◌, min, Bool, true, false, List, [], ◌∷◌, ◌++◌, length, map, ap}
 use Rattle.std.proofs.Common.{subst, refl, sym, ◌∙◌, arith}
@@ -43,12 +43,13 @@ use Rattle.tx_parts.specs.Atop.{atop, env_atop, both_looks}
 use Rattle.tx_origin.specs.Under.{origin_under, tree_under, value_under}
 use Rattle.tx_parts.proofs.Maps.{get_atop, atop_pair, both_set, both_unset}
 use Rattle.tx_origin.proofs.Under.{plain_under, plains_under, vals_under}
-use Rattle.tx_parts.proofs.UnderValues.{frame_under, found_under, text_under}
+use Rattle.tx_parts.specs.InFrames.{frame_under}
+use Rattle.tx_parts.proofs.UnderValues.{found_under, text_under}
 use Rattle.tx_parts.proofs.UnderValues.{more_under, two_under, plain_all, whole_under, kids_under, kids_of_under}
 use Rattle.tx_parts.proofs.UnderValues.{count_under, odd_under, wholes_of_under, numbers_under, truth_under}
 use Rattle.tx_parts.proofs.UnderValues.{part_under, among_under, found_in, caller_under}
 
--- a state of the part, behind what the whole has set and looked up before it, where so many levels were left
+-- a state of the part, after what the whole has set and looked up before it, where so many levels were left
 abbrev pub added : NameMap → LookMap → ℕ → State → State
 added w l n s = record {
   own = atop s.own w;
@@ -286,8 +287,8 @@ module _ (w : NameMap) (l : LookMap) (n : ℕ) where
       abbrev Values : Run (List WideValue) → Run (List WideValue) → Type 0
       Values m m' = Shifts (map V) m m'
 
-      eachs : (ts : List TaggedTree) (vs : List WideValue) → Values (each below f vs ts) (each below (F f) (map V vs)
-          (map T ts))
+      pub eachs : (ts : List TaggedTree) (vs : List WideValue) →
+          Values (each below f vs ts) (each below (F f) (map V vs) (map T ts))
       eachs [] vs = gives (map V) vs
       eachs (t ∷ ts) vs = bind (λ u. each below (F f) (map V vs ++ u ∷ []) (map T ts)) (belows t f)
           (λ v. subst (λ us. Values (each below f (vs ++ v ∷ []) ts) (each below (F f) us (map T ts)))

@@ -1,4 +1,4 @@
--- Parts stand in their tree, and no two at one path.
+-- Each part is in its tree, and no two parts have one path.
 use Rattle.std.proofs.Common.{◌≡◌, ℕ, zero, suc, ◌+◌, ◌*◌, ◌-◌, ◌≤◌, List, [], ◌∷◌, ◌++◌, length, map, ap, subst, refl}
 use Rattle.std.proofs.Common.{sym, ◌∙◌, arith}
 use Rattle.std.proofs.lemmas.List.{append_assoc, append-nil}
@@ -77,7 +77,7 @@ with_opened (node label us) ps u h =
     last_at (trees us) (ps, u) (with_settings (bytes_eq label (codes "document")) (bytes_eq label (codes "with"))
     (trees us) (settings_in (trees us)) ps u h)
 
--- ---- parts stand in their tree
+-- ---- each part is in its tree
 
 abbrev pub AllStand : List ℕ → WideTree → List Part → Type 0
 AllStand path t ps = AllByRecursion (StandsIn path t) ps
@@ -144,7 +144,7 @@ module _ (k : ℕ) (finder : Finder) (below : StandBelow finder) where
       (below (c - (1 + settings_cost ps)) (path ++ (2 * length ps) ∷ []) u (env_atop (set_by ps) e))
   open_stands Shut c path t e h = (record { below = []; path_is = sym (append-nil path); leads = refl }, tt)
 
--- those of a child in layers stand in the child
+-- those of a child in layers are in the child
 abbrev pub StandInside : LayerFinder → Type 0
 StandInside inside = (ls : List Layer) (i c : ℕ) (path : List ℕ) (u : WideTree) (e : Before) →
     AllStand (path ++ i ∷ []) u (inside ls i c path u e)
@@ -190,7 +190,7 @@ module _ (sheller : Sheller) where
 pub parts_stand : (k : ℕ) → StandBelow (parts k)
 parts_stand k = parts_by_stand no_shells k
 
--- ---- no two stand at one path
+-- ---- no two have one path
 
 abbrev NotIn : List ℕ → List Part → Type 0
 NotIn path ps = AllByRecursion (λ (p : Part). bytes_eq path p.path ≡ false) ps

@@ -1,4 +1,4 @@
--- Where nothing of layers is left to evaluate, nothing is where the trace of the whole fits.
+-- Where layers cost nothing, they cost nothing in each environment in which the trace of the whole fits.
 use Rattle.std.proofs.Common.{◌≡◌, ℕ, zero, suc, ◌+◌, ◌*◌, ◌-◌, ◌≤◌, List, [], ◌∷◌, length, subst, refl, sym, ◌∙◌, ap}
 use Rattle.std.proofs.Common.{arith}
 use Rattle.std.proofs.lemmas.Grind.{common_steps}
@@ -38,7 +38,7 @@ both_none m n h = (omega (arith, h), omega (arith, h))
 none_both : (m n : ℕ) → m ≡ 0 → n ≡ 0 → m + n ≡ 0
 none_both m n h g = omega (arith, h, g)
 
--- what is counted of a tree that isn't over doesn't depend on the steps that it has
+-- what is counted of a tree that has a trace doesn't depend on the steps that it has
 abbrev pub IsEven : TreeMeasure → Type 0
 IsEven measure = (c n : ℕ) (trace : WideTrace) → measure c (Some trace) ≡ measure n (Some trace)
 

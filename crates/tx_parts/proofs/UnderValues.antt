@@ -17,14 +17,8 @@ use Rattle.tx_exec_form.specs.Frames.{argument, argument_in, first_argument, oth
 use Rattle.tx_exec_form.specs.Numbers.{value_number, integers_of, tree_at, kid_at, part_of, part_among}
 use Rattle.tx_exec_form.specs.Rows.{value_truth, is_odd}
 use Rattle.tx_origin.specs.Under.{origin_under, tree_under, value_under, values_under}
+use Rattle.tx_parts.specs.InFrames.{frame_under}
 use Rattle.tx_origin.proofs.Under.{plain_under}
-
-abbrev pub frame_under : List ℕ → Frame → Frame
-frame_under base top = top
-frame_under base (call parameters arguments caller) =
-    call parameters (map (tree_under base) arguments) (frame_under base caller)
-frame_under base (call_all parameter arguments caller) =
-    call_all parameter (map (tree_under base) arguments) (frame_under base caller)
 
 abbrev pub found_under : List ℕ → Found → Found
 found_under base Unbound = Unbound

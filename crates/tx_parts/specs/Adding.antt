@@ -1,4 +1,4 @@
--- How a part that is evaluated alone stands in the whole.
+-- What a part that is evaluated alone does in the whole.
 use Rattle.std.specs.Prelude.{ℕ, ◌-◌, min, List, Option, Some, None}
 use Rattle.tx_origin.specs.Values.{WideValue}
 use Rattle.tx_exec_form.specs.Runs.{State, Ran, Over, Done}
@@ -6,8 +6,8 @@ use Rattle.tx_exec_form.specs.Evaluated.{WideTrace}
 use Rattle.tx_parts.specs.Atop.{atop, both_looks}
 use Rattle.tx_origin.specs.Under.{value_under}
 
--- The state of the whole behind a part with this trace, which had k levels and began at this state. The looks at names
--- that the whole has set are none of its own. What the part has set stands atop.
+-- The state of the whole after a part with this trace, which had k levels and began at this state. The part's looks at
+-- names that the whole has set are not looks of the whole. What the part has set overrides what was set before.
 abbrev pub after_part : ℕ → State → WideTrace → State
 after_part k s trace = record {
   own = atop trace.writes s.own;

@@ -15,11 +15,11 @@ use Rattle.tx_parts.specs.Atop.{atop, env_atop, past, both_looks}
 use Rattle.tx_origin.specs.Under.{value_under}
 use Rattle.tx_parts.specs.Openness.{Settings, Openness, Document, With, Shut}
 
--- a tree that is evaluated alone stands at an origin of its own
+-- a tree that is evaluated alone has an origin of its own
 abbrev pub alone : WideTree → TaggedTree
 alone t = record { tree = t; at = Some [] }
 
--- the trace of a tree with so many steps in an environment, or None where it is over
+-- the trace of a tree with so many steps in an environment, or None where it runs out
 abbrev pub Tracer : Type 0
 Tracer = ℕ → WideTree → Before → Option WideTrace
 
@@ -29,7 +29,7 @@ evaluates k c t e = evaluated_in k c (alone t) e
 
 -- ---- `document`
 
--- what children in order have come to so far
+-- the values, looks and writes of children in order so far, and what they took
 pub record SoFar : Type 0 where
   pub values : List WideValue
   pub looks : LookMap
@@ -50,7 +50,7 @@ with_child i a trace = record {
   height = max a.height trace.height;
 }
 
--- The children from number i on, with c steps for all: each is evaluated alone, in the environment behind those before
+-- The children from number i on, with c steps for all: each is evaluated alone, in the environment after those before
 -- it.
 abbrev pub children_from : Tracer → ℕ → ℕ → SoFar → List WideTree → Before → Option SoFar
 children_from tracer c i a [] e = Some a
@@ -88,7 +88,7 @@ setting_values i [] = []
 setting_values i (p ∷ ps) =
     text p.0 (Some (i ∷ [])) ∷ text p.1 (Some ((i + 1) ∷ [])) ∷ setting_values (i + 2) ps
 
--- Of the inner tree's looks and writes those at the names of the settings are none of the whole.
+-- The inner tree's looks and writes at the names of the settings are not those of the whole.
 abbrev pub with_trace : Settings → WideTrace → WideTrace
 with_trace ps trace = record {
   value =

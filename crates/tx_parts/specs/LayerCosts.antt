@@ -1,6 +1,6 @@
--- What layers cost, of those tags with shells that are gone into on the way to a tree's parts: what those of their
--- trees cost that aren't held, and a step for each node of what these come to, which is what names are set to. The
--- names aren't counted, nor are the tags and the nodes of the layers themselves.
+-- What layers cost, of the tags with shells on the way to a tree's parts. Counted are the costs of the layers' trees
+-- that aren't held, and a step for each node of their values, to which names are set. The names aren't counted, nor are
+-- the tags and the nodes of the layers themselves.
 use Rattle.std.specs.Prelude.{ℕ, zero, suc, ◌+◌, ◌-◌, ◌≡◌, nat_le, Bool, true, false, if◌then◌else◌, List, [], ◌∷◌}
 use Rattle.std.specs.Prelude.{Option, Some, None}
 use Rattle.std.specs.Option.{option_map_or}
@@ -19,7 +19,7 @@ use Rattle.tx_parts.specs.Layered.{evaluates_bare, layer_values, layer_cost, ins
 
 -- ---- what is held
 
--- whether it is held what a layer's tree comes to where names have this
+-- whether the value of a layer's tree is held, where names have this
 abbrev pub Holder : Type 0
 Holder = WideTree → Before → Bool
 
@@ -30,14 +30,14 @@ holds_nothing t e = false
 abbrev pub HoldsMore : Holder → Holder → Type 0
 HoldsMore held more = (t : WideTree) (e : Before) → held t e ≡ true → more t e ≡ true
 
--- what is held of a tree that isn't over is held where its looks have the same
+-- a tree that is held and has a trace is held in each environment that agrees with the trace's looks
 abbrev pub StaysHeld : Holder → Type 0
 StaysHeld held = (k c : ℕ) (t : WideTree) (e d : Before) (trace : WideTrace) → held t e ≡ true →
     evaluates_bare k c t e ≡ Some trace → Agrees d trace.looks → held t d ≡ true
 
 -- ---- a layer
 
--- what is counted of a tree with so many steps, by what it comes to
+-- what is counted of a tree with so many steps, by its trace
 abbrev pub TreeMeasure : Type 0
 TreeMeasure = ℕ → Option WideTrace → ℕ
 
@@ -46,7 +46,7 @@ abbrev pub set_nodes : TreeMeasure
 set_nodes c None = 0
 set_nodes c (Some trace) = nodes_of (plain trace.value)
 
--- in a tree of a layer behind this, unless it is held, and in those behind it
+-- in a tree of a layer after those before, unless it is held, and in those after it
 abbrev pub tree_counts : Holder → TreeMeasure → ℕ → ℕ → ℕ → SoFar → WideTree → (SoFar → ℕ) → Before → ℕ
 tree_counts held measure k c i a t rest e =
     (if held t (env_atop a.writes e) then 0
@@ -54,7 +54,7 @@ tree_counts held measure k c i a t rest e =
     + option_map_or (λ trace. rest (with_child i a trace))
     (evaluates_bare k (c - a.cost) t (env_atop a.writes e)) 0
 
--- in the trees from here on, each behind its name, which is the child of number i
+-- in the trees from here on, each after its name, which is the child of number i
 abbrev pub tree_counts_from : Holder → TreeMeasure → ℕ → ℕ → ℕ → SoFar → List Name → List WideTree → Before → ℕ
 tree_counts_from held measure k c i a [] ts e = 0
 tree_counts_from held measure k c i a (x ∷ xs) [] e = 0
@@ -63,7 +63,7 @@ tree_counts_from held measure k c i a (x ∷ xs) (t ∷ ts) e =
     (λ b. tree_counts_from held measure k c (i + 1 + 1) b xs ts e) e)
     (evaluates_bare k (c - a.cost) (leaf x) (env_atop a.writes e)) 0
 
--- what the trees of a layer cost, each all steps that are left where it is over
+-- what the trees of a layer cost: all steps that are left for a tree that runs out
 abbrev pub layer_tree_costs : Holder → ℕ → Layer → ℕ → Before → ℕ
 layer_tree_costs held k l c e = tree_counts_from held paid k (c - 1) 0 nothing_yet l.names l.trees e
 
@@ -77,7 +77,7 @@ layer_set_nodes held k l c e = tree_counts_from held set_nodes k (c - 1) 0 nothi
 abbrev pub Counter : Type 0
 Counter = ℕ → WideTree → Before → ℕ
 
--- in the children from number i on, behind what the earlier ones came to
+-- in the children from number i on, after the traces of the earlier ones
 abbrev pub counts_from : ℕ → Counter → ℕ → ℕ → SoFar → List WideTree → Before → ℕ
 counts_from k counter c i a [] e = 0
 counts_from k counter c i a (t ∷ ts) e =
@@ -95,7 +95,7 @@ counts_as Shut k counter c t e = 0
 abbrev pub LayerCounter : Type 0
 LayerCounter = List Layer → Counter
 
--- behind the trees of a layer: nothing, where what it costs isn't allowed
+-- after the trees of a layer: nothing, where what the layer costs isn't allowed
 abbrev pub costs_inside : Holder → ℕ → Layer → SoFar → Counter → Counter
 costs_inside held k l a inside c t e =
     if nat_le (layer_cost l.names a) c

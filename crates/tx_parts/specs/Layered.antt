@@ -1,5 +1,5 @@
--- The trace of a tag with a shell, composed of those of its layers' trees and of the child that stands in them. And the
--- trace of any open tree, where some have shells.
+-- The trace of a tag with a shell, composed of those of its layers' trees and of the child inside them. And the trace
+-- of any open tree, where some have shells.
 use Rattle.std.specs.Prelude.{ℕ, zero, suc, ◌+◌, ◌-◌, max, nat_le, if◌then◌else◌, List, [], ◌∷◌, ◌++◌, Option, Some}
 use Rattle.std.specs.Prelude.{None, option_and_then, codes}
 use Rattle.std.specs.Option.{option_map}
@@ -24,11 +24,11 @@ use Rattle.tx_parts.specs.Composed.{Tracer, evaluates, SoFar, nothing_yet, child
 abbrev pub evaluates_bare : ℕ → Tracer
 evaluates_bare k c t e = evaluated_in k c (bare t) e
 
--- what the names and the trees of a layer come to, in order
+-- what the names and the trees of a layer evaluate to, in order
 abbrev pub layer_values : ℕ → Layer → ℕ → Before → Option SoFar
 layer_values k l c e = children_from (evaluates_bare k) (c - 1) 0 nothing_yet (in_turn l.names l.trees) e
 
--- the names with what their trees came to: of the values each second one
+-- the names with the values of their trees: of the values each second one
 abbrev pub layer_pairs : List Name → List WideValue → List (Name × WideTree)
 layer_pairs [] vs = []
 layer_pairs (x ∷ xs) [] = []
@@ -47,7 +47,7 @@ layer_sets xs a = overlaid empty (layer_pairs xs a.values)
 abbrev pub layer_cost : List Name → SoFar → ℕ
 layer_cost xs a = 1 + a.cost + sizes (as_sets (layer_pairs xs a.values))
 
--- what names have inside: what the layer sets stands atop what its trees have set
+-- what names have inside: what the layer sets overrides what its trees have set
 abbrev pub inside_layer : List Name → SoFar → Before → Before
 inside_layer xs a e = env_atop (layer_sets xs a) (env_atop a.writes e)
 

@@ -12,3 +12,4 @@ pub mod Recomposed
 pub mod LayerCosts
 pub mod Fitting
 pub mod Standing
+pub mod InFrames

@@ -18,14 +18,14 @@ body_in_layers (l ∷ ls) x = node (codes "with") (forest (in_turn l.names l.tre
 abbrev pub macro_of : List Name → WideTree → WideTree
 macro_of params body = node (codes "macro") (forest (map leaf params ++ body ∷ []))
 
--- without an origin it does in this frame what it does without one
+-- the tree without an origin does in this frame what it does without a frame
 abbrev pub IsFree : Frame → WideTree → Type 0
 IsFree frame t = (k : ℕ) → ex k (bare t) frame ≡ ex k (bare t) top
 
 abbrev pub IsFreeLayer : Frame → Layer → Type 0
 IsFreeLayer frame l = AllByRecursion (IsFree frame) l.trees
 
--- A tag whose label has such a macro, where the layers stand round its child of this number.
+-- A tag whose label has such a macro, where the layers are round its child of this number.
 pub record IsCallOf (label : List ℕ) (ts : Forest) (e : Before) (params : List Name) (ls : List Layer) (x : Name)
     (i : ℕ) : Type 0 where
   pub other : is_other_tag label ≡ true

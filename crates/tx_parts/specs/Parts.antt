@@ -1,4 +1,4 @@
--- The parts of a tree: it is gone into inner trees, down to trees that aren't open.
+-- The parts of a tree: the trees that aren't open, at the end of each way through inner trees.
 use Rattle.std.specs.Prelude.{◌≡◌, ℕ, zero, suc, ◌+◌, ◌*◌, ◌-◌, List, [], ◌∷◌, ◌++◌, length, Option, Some}
 use Rattle.std.specs.Option.{option_map_or}
 use Rattle.tx_tree.specs.WideTree.{WideTree}
@@ -11,7 +11,7 @@ use Rattle.tx_parts.specs.Opening.{Sheller, no_shells, Opening, ByTree, ByShell,
 use Rattle.tx_parts.specs.Composed.{evaluates, SoFar, nothing_yet, with_child, set_by, settings_cost}
 use Rattle.tx_parts.specs.Layered.{layer_values, layer_cost, inside_layer}
 
--- where it stands, the levels and steps that it has, and what names have before it
+-- its path, its tree, the levels and steps that it has, and what names have before it
 pub record Part : Type 0 where
   pub path : List ℕ
   pub tree : WideTree
@@ -19,15 +19,15 @@ pub record Part : Type 0 where
   pub steps : ℕ
   pub before : Before
 
--- what it comes to alone
+-- its trace alone
 abbrev pub part_trace : Part → Option WideTrace
 part_trace p = evaluates p.levels p.steps p.tree p.before
 
--- it isn't over
+-- it doesn't run out of steps or levels
 abbrev pub HasTrace : Part → Type 0
 HasTrace p = (trace : WideTrace) × (part_trace p ≡ Some trace)
 
--- what is kept of a part: where it stands, and its trace, or None where it is over
+-- what is stored of a part: its path, and its trace, or None where it runs out
 pub record Stored : Type 0 where
   pub path : List ℕ
   pub trace : Option WideTrace
@@ -35,7 +35,7 @@ pub record Stored : Type 0 where
 abbrev pub stored_part : Part → Stored
 stored_part p = record { path = p.path; trace = part_trace p }
 
--- what it costs, or all its steps where it is over
+-- what it costs, or all its steps where it runs out
 abbrev pub part_cost : Part → ℕ
 part_cost p = paid p.steps (part_trace p)
 
@@ -43,7 +43,7 @@ part_cost p = paid p.steps (part_trace p)
 abbrev pub Finder : Type 0
 Finder = ℕ → List ℕ → WideTree → Before → List Part
 
--- those of the children from number i on, behind what the earlier ones came to
+-- those of the children from number i on, after the traces of the earlier ones
 abbrev pub parts_from : ℕ → Finder → ℕ → List ℕ → ℕ → SoFar → List WideTree → Before → List Part
 parts_from k finder c path i a [] e = []
 parts_from k finder c path i a (t ∷ ts) e =

@@ -1,5 +1,5 @@
--- The trace of a tree, put together from what is stored of its parts. It is `composed_by`, but where a tree isn't open
--- it isn't evaluated: the first stored trace is taken, and what is left of the list is passed on.
+-- The trace of a tree, put together from what is stored of its parts. The definition follows `composed_by`. But a tree
+-- that isn't open isn't evaluated: the first stored trace is taken, and the rest of the list is passed on.
 use Rattle.std.specs.Prelude.{ℕ, zero, suc, ◌+◌, ◌-◌, nat_le, if◌then◌else◌, List, [], ◌∷◌, Option, Some, None}
 use Rattle.std.specs.Prelude.{option_and_then}
 use Rattle.std.specs.Option.{option_map}
@@ -14,8 +14,8 @@ use Rattle.tx_parts.specs.Composed.{SoFar, nothing_yet, with_child, document_tra
 use Rattle.tx_parts.specs.Layered.{layer_values, layer_cost, inside_layer, layer_trace, child_trace, shell_trace}
 use Rattle.tx_parts.specs.Parts.{Stored}
 
--- What comes of a list, and what is left of it. None where the list is too short, where a trace that is taken is of a
--- part that is over, or where the steps or levels round the parts run out.
+-- What is made from a list, and what is left of the list. None where the list is too short, where the trace of a part
+-- that ran out is taken, or where the steps or levels round the parts run out.
 abbrev pub FromStored : Type 0 → Type 0
 FromStored A = Option (A × List Stored)
 
@@ -28,7 +28,7 @@ abbrev pub first_stored : List Stored → FromStored WideTrace
 first_stored [] = None
 first_stored (p ∷ ps) = option_map (λ trace. (trace, ps)) p.trace
 
--- with what stands round it, which takes n of c steps
+-- with what is round it, which takes n of c steps
 abbrev pub in_whole : {A : Type 0} → (n c : ℕ) → (A → WideTrace) → FromStored A → FromStored WideTrace
 in_whole n c whole o = if nat_le n c then option_map (λ r. (whole r.0, r.1)) o else None
 

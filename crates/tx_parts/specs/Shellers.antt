@@ -8,8 +8,7 @@ use Rattle.tx_parts.specs.Shells.{Shell, IsShell}
 use Rattle.tx_parts.specs.Opening.{Sheller}
 use Rattle.tx_parts.specs.Composed.{evaluates}
 
--- Each is the tree's shell. Where names have the same, as far as the tree's evaluation has looked them up, so is the
--- shell.
+-- Each is the tree's shell. It is the same in each environment that agrees with the looks of the tree's trace.
 pub record IsSheller (sheller : Sheller) : Type 0 where
   pub shells : (t : WideTree) (e : Before) (shell : Shell) → sheller t e ≡ Some shell → IsShell shell t e
   pub again : (k c : ℕ) (t : WideTree) (e d : Before) (trace : WideTrace) → evaluates k c t e ≡ Some trace →

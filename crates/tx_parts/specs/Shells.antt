@@ -1,4 +1,4 @@
--- Shells: what an opener tells of a tag. The tag does what layers of `with` do that stand round one of its children.
+-- Shells: what an opener gives for a tag. The tag does what layers of `with` round one of its children do.
 use Rattle.std.specs.Prelude.{◌≡◌, ℕ, zero, suc, ◌*◌, ◌<◌, Bool, true, false, ◌&&◌, not, is_some, List, [], ◌∷◌, ◌++◌}
 use Rattle.std.specs.Prelude.{length, map, Option, Some, None, slice_get, codes}
 use Rattle.std.specs.List.{AllByRecursion}
@@ -20,7 +20,7 @@ pub record Layer : Type 0 where
   pub names : List Name
   pub trees : List WideTree
 
--- layers, the outer first, and the number of the child that stands in them
+-- layers, the outer first, and the number of the child inside them
 pub record Shell : Type 0 where
   pub layers : List Layer
   pub inner : ℕ
@@ -35,13 +35,13 @@ Opener = WideTree → WideTree → Option Shell
 abbrev pub bare : WideTree → TaggedTree
 bare t = record { tree = t; at = None }
 
--- each name as a text, and its tree behind it
+-- each name as a text, and its tree after it
 abbrev pub in_turn : List Name → List WideTree → List WideTree
 in_turn [] ts = []
 in_turn (x ∷ xs) [] = []
 in_turn (x ∷ xs) (t ∷ ts) = leaf x ∷ t ∷ in_turn xs ts
 
--- what has no origin is evaluated so, and what has one otherwise
+-- what has no origin is evaluated by the first, and what has one by the second
 abbrev pub by_origin : Option (List ℕ) → Run WideValue → Run WideValue → Run WideValue
 by_origin None m n = m
 by_origin (Some p) m n = n
@@ -76,11 +76,11 @@ shell_run (suc k) shell (node label ts) = do
 
 -- ---- what is true of a shell
 
--- The `with` for which the layer stands is a tree: it has as many names as trees, and at most 65,535 children.
+-- The layer's `with` is a tree: it has as many names as trees, and at most 65,535 children.
 abbrev pub IsFull : Layer → Type 0
 IsFull l = (length l.names ≡ length l.trees) × (2 * length l.names < 65535)
 
--- A tag with this shell, where names have this. It runs so alone, and so it does in the whole.
+-- A tag with this shell, where names have this. Its evaluation alone is the run of its shell.
 pub record IsShell (shell : Shell) (t : WideTree) (e : Before) : Type 0 where
   pub inside : shell.inner < length (children_of t)
   pub full : AllByRecursion IsFull shell.layers
@@ -95,7 +95,7 @@ is_tag_row other = false
 abbrev pub is_other_tag : List ℕ → Bool
 is_other_tag label = is_tag_row (row_of label) && not (is_some (primitive_named label))
 
--- What an opener tells of any other tag is its shell wherever its label has that tree.
+-- What an opener gives for any other tag is its shell wherever its label has that tree.
 abbrev pub IsOpener : Opener → Type 0
 IsOpener opener = (label : List ℕ) (ts : Forest) (meaning : WideTree) (shell : Shell) (e : Before) →
     is_other_tag label ≡ true → opener (node label ts) meaning ≡ Some shell → e label ≡ Some meaning →

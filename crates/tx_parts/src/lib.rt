@@ -1,4 +1,4 @@
-//! Evaluation by parts: an open tree comes to what its inner trees come to, each alone.
+//! Evaluation by parts: the value of an open tree is made of those of its inner trees, each evaluated alone.
 #![tactic(auto)]
 
 mod laws;
@@ -6,7 +6,8 @@ mod recomposition;
 mod shell_laws;
 
 pub use laws::{
-    atop_law, composition_law, cost_law, fitting_law, looks_law, part_law, past_law, standing_law,
+    atop_law, composition_law, cost_law, fitting_law, frame_law, looks_law, part_law, past_law,
+    standing_law,
 };
 pub use recomposition::recomposition_law;
 pub use shell_laws::{

@@ -9,8 +9,9 @@ ghost use Rattle.tx_parts.specs.Shellers.{IsSheller};
 ghost use Rattle.tx_parts.specs.Parts.{Stored, stored_part, parts, parts_by};
 ghost use Rattle.tx_parts.specs.Recomposed.{recomposed_by};
 
-/// A law: a tree's trace is put together from what is stored of its parts, in order, where none of them is evaluated.
-/// Each of them is taken, and what follows in the list is left. Where the tree is over nothing comes of them.
+/// A law: a tree's trace is put together from what is stored of its parts, in order, and none of them is evaluated.
+/// Each of them is taken, and what follows in the list is left. Where the tree runs out of steps or levels, there is no
+/// result.
 pub fn recomposition_law()
     ensures whole { (sheller : Sheller) → IsSheller sheller → (k c : ℕ) (path : List ℕ) (t : WideTree) (e : Before)
         (trace : WideTrace) (rest : List Stored) → evaluates k c t e ≡ Some trace →

@@ -22,8 +22,8 @@ ghost use Rattle.tx_parts.specs.LayerCosts.{Holder, HoldsMore, StaysHeld, layer_
 ghost use Rattle.tx_parts.specs.Fitting.{AllFit};
 ghost use Rattle.tx_parts.specs.Standing.{StandsIn};
 
-/// A law: what an opener tells of any other tag is the tag's shell, and stays so where names have the same, as far as
-/// the tag's evaluation looks them up. An opener may open nothing.
+/// A law: the shell that an opener gives for any other tag is the tag's shell. It is the same in each environment that
+/// agrees with the looks of the tag's evaluation. An opener may open nothing.
 pub fn opener_law()
     ensures sheller { (opener : Opener) → IsOpener opener → IsSheller (shells_by opener) }
     ensures closed { IsSheller no_shells }
@@ -38,8 +38,8 @@ pub fn macro_law()
         IsCallOf label ts e params ls x i → IsShell (record { layers = ls; inner = i }) (node label ts) e }
 {}
 
-/// A law: a tree in layers comes to the layers' trees and to what is inside, each layer behind its trees. In the whole
-/// it does what its trace says.
+/// A law: the trace of a tree in layers is composed of the traces of the layers' trees and of the tree. What a layer
+/// sets is set after its trees are evaluated. In the whole, the tree in layers does what its trace says.
 pub fn layers_law()
     ensures inner { (k : ℕ) (ls : List Layer) (i c : ℕ) (t : WideTree) (e : Before) →
         evaluates_in (suc k) ls i c t e ≡ composed_layers k (evaluates k) (evaluates_in k) ls i c t e }
@@ -60,8 +60,8 @@ pub fn layers_law()
         trace.cost ≤ n → layer_values k l n d ≡ layer_values k l c e }
 {}
 
-/// A law: where these are shells of trees, the trace of a tree is composed of those of its inner trees. So it is
-/// composed of the traces of its parts and of the trees of layers.
+/// A law: where these are shells of trees, the trace of a tree is composed of those of its inner trees. By induction,
+/// it is composed of the traces of its parts and of the trees of layers.
 pub fn opened_composition_law()
     ensures inner { (sheller : Sheller) → IsSheller sheller → (k c : ℕ) (t : WideTree) (e : Before) →
         evaluates (suc k) c t e ≡ composed_opened (opening sheller t e) k (evaluates k) (evaluates_in k) c t e }
@@ -90,10 +90,10 @@ pub fn opened_standing_law()
         IsDistinct bytes_eq (map (λ p. p.path) (parts_by sheller k c path t e)) }
 {}
 
-/// A law: the parts of a tree and the trees of its layers together cost at most what the tree costs, or what it may
-/// cost where it is over, whatever is held of the layers. So they do in a tree in layers. Where nothing has a shell no
-/// layer costs anything, and where more is held layers cost no more. Where layers cost nothing, they do so where the
-/// trace of the tree fits.
+/// A law: the parts of a tree and the trees of its layers together cost at most what the tree costs, or all its steps
+/// where it runs out. This is true whatever is held of the layers, and of a tree in layers too. Where nothing has a
+/// shell, no layer costs anything. Where more is held, layers cost no more. Where layers cost nothing, they cost
+/// nothing in each environment that agrees with the looks of the tree's trace.
 pub fn opened_cost_law()
     ensures tree { (held : Holder) (sheller : Sheller) → IsSheller sheller → (k c : ℕ) (path : List ℕ)
         (t : WideTree) (e : Before) →

@@ -1,4 +1,4 @@
-// Numbers and lengths, and what a primitive answers without making a tree.
+// Numbers and lengths, and what a primitive returns without making a tree.
 ghost use Rattle.std.specs.Prelude.{◌≡◌};
 ghost use Rattle.tx_prim.specs.Arithmetic.{amount_size, is_length, are_alike, amount};
 
@@ -26,7 +26,7 @@ pub enum ValueFault {
     Limit,
 }
 
-/// What a primitive answers, where that is no part of its operands.
+/// What a primitive returns, where that is no part of its operands.
 #[derive(Clone, Copy, Debug, PartialEq, Eq)]
 pub enum Answer {
     /// A number or a length.

@@ -16,9 +16,9 @@ use tx_tree::Tree;
 pub enum Comparison {
     /// The first comes before the second.
     Before,
-    /// It doesn't come behind it.
+    /// The first doesn't come after the second.
     NotBehind,
-    /// It comes behind it.
+    /// The first comes after the second.
     Behind,
     /// It doesn't come before it.
     NotBefore,

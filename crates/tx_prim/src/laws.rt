@@ -1,4 +1,4 @@
-// Laws of the definitions that the table stands on.
+// Laws of the definitions that the table uses.
 ghost use Rattle.std.specs.Prelude.{◌≡◌, ◌<◌, ◌≤◌, ◌^◌, ◌↔◌, ℤ, true, Some, None, unsigned_abs};
 ghost use Rattle.std.specs.Fmt.{signed_decimal};
 ghost use Rattle.tx_tree.specs.WideTree.{WideTree};
@@ -19,7 +19,7 @@ pub fn length_laws()
     ensures unread { (z : ℤ) → fits_word z ≡ true → 10 ^ 18 ≤ unsigned_abs z → length_of (length_text z) ≡ None }
 {}
 
-/// The test by which the table compares trees tells whether they are equal.
+/// The test by which the table compares trees says whether they are equal.
 pub fn sameness_law()
     ensures { (s t : WideTree) → (is_same s t ≡ true) ↔ (s ≡ t) }
 {}

@@ -1,4 +1,4 @@
-// Lengths as they stand in texts.
+// Lengths as they are written in texts.
 ghost use Rattle.std.specs.Prelude.{◌≡◌, ◌<◌, ◌≤◌, ◌-◌, ◌++◌, true, codes, length, take, IfOk, IfSome};
 ghost use Rattle.std.specs.List.{list_all, prefix_len};
 ghost use Rattle.std.specs.Str.{bytes_eq};
@@ -61,7 +61,7 @@ fn count_digits(bytes: &[u8]) -> usize
     bytes.len()
 }
 
-// The digits in front, and what stands behind them.
+// The digits in front, and what comes after them.
 #[tactic(auto, using(crate::proofs::Digits::digits_seen, std::proofs::lemmas::Grind::common_steps))]
 fn split_digits(bytes: &[u8]) -> (&[u8], &[u8])
     ensures front { result.0.now ≡ digits_front bytes.now }
@@ -79,7 +79,7 @@ fn digit_value(digit: u8) -> u64
     u64::from(digit - b'0')
 }
 
-// The thousandths of what digits behind a point write, without those past the third.
+// The thousandths of what digits after a point write, without those past the third.
 fn first_three(decimals: &[u8]) -> u64
     requires { list_all is_digit decimals.now ≡ true }
     ensures value { result ≡ number_after 0 (take 3 (decimals.now ++ codes "000")) }
@@ -107,7 +107,7 @@ fn measured_length(minus: bool, whole: &[u8], decimals: &[u8], unit: &[u8]) -> O
     signed(minus, size)
 }
 
-// Behind the digits of the whole: a point, digits and a unit, or a unit alone.
+// The length after the digits of the whole: a point, digits and a unit, or a unit alone.
 fn length_behind(minus: bool, whole: &[u8], bytes: &[u8]) -> Option<i64>
     requires { list_all is_digit whole.now ≡ true }
     ensures { result ≡ length_behind minus whole.now bytes.now }
@@ -143,7 +143,7 @@ pub(crate) fn length_of(bytes: &[u8]) -> Option<i64>
 }
 
 /// The length that the text writes, in thousandths of a cell, cut toward zero: a minus sign or none, at most 18 digits,
-/// a point and digits or none, and a unit, with a digit somewhere and one behind a point. Digits past the third behind
+/// a point and digits or none, and a unit, with a digit somewhere and one after a point. Digits past the third after
 /// the point don't count. None where the text writes no length, or one that 64 bits don't hold.
 pub fn parse_length(t: &Text) -> Option<i64>
     ensures { result ≡ length_of t.now }

@@ -15,7 +15,7 @@ use std::sync::ledger::Ledger;
 use tx_base::Steps;
 use tx_tree::{Label, LabelFault, MOST_TEXT, Memory, Text, TextFault, Tree, TreeFault};
 
-/// The text of these bytes, which are one within the limit. The one error is want of memory.
+/// The text of these bytes, which are one within the limit. The one error is `Memory`.
 #[tactic(auto, using(crate::proofs::Sound::right, std::proofs::lemmas::Grind::common_steps))]
 pub fn known_text(alloc: Global, bytes: &[u8]) -> Result<Text, Memory>
     requires text { IsText bytes.now }
@@ -121,7 +121,7 @@ fn truth_leaf(alloc: Global, truth: bool) -> Result<Tree, Memory>
     }
 }
 
-// The tree of an answer.
+// The tree of a result.
 pub(crate) fn told<L: Ledger>(
     alloc: Global,
     which: Prim,

@@ -24,9 +24,9 @@ pub enum Prim {
     Unequal,
     /// `less`: whether the first comes before the second.
     Less,
-    /// `lesseq`: whether it doesn't come behind it.
+    /// `lesseq`: whether it doesn't come after it.
     LessEq,
-    /// `greater`: whether it comes behind it.
+    /// `greater`: whether it comes after it.
     Greater,
     /// `greatereq`: whether it doesn't come before it.
     GreaterEq,

@@ -1,4 +1,4 @@
-// Numbers as they stand in texts.
+// Numbers as they are written in texts.
 ghost use Rattle.std.specs.Prelude.{◌≡◌, ◌<◌, ◌+◌, ◌-◌, ◌*◌, ◌^◌, true};
 ghost use Rattle.std.specs.List.{list_all};
 ghost use Rattle.std.specs.Option.{SomeIff};
@@ -13,7 +13,7 @@ pub(crate) fn is_digit(byte: u8) -> bool
     byte.is_ascii_digit()
 }
 
-// Whether a minus sign stands in front, and what stands behind it.
+// Whether there is a minus sign in front, and what comes after it.
 pub(crate) fn split_minus(bytes: &[u8]) -> (bool, &[u8])
     ensures minus { result.0 ≡ has_minus bytes.now }
     ensures rest { result.1.now ≡ behind_minus bytes.now }

@@ -28,7 +28,7 @@ adds_then {a} {b} {p} {q} {r} {x} {y} {z} first second =
 pub adds_nothing : {p : Printer} {x : SinkSeen} → PrinterAdds [] p x p x
 adds_nothing {p} {x} = record { given = λ start front stands. rw (append-nil front) stands }
 
--- the same piece in other words
+-- an equal piece is added alike
 pub adds_also : {a b : List ℕ} {p q : Printer} {x y : SinkSeen} → a ≡ b → PrinterAdds a p x q y → PrinterAdds b p x q y
 adds_also {a} {b} {p} {q} {x} {y} e adds = subst (λ (c : List ℕ). PrinterAdds c p x q y) e adds
 
@@ -63,7 +63,7 @@ adds_failed {p} {q} piece x before after =
           };
     }
 
--- a piece waits behind the others
+-- a piece waits after the others
 pub adds_waiting : {p q : Printer} (piece : List ℕ) (x : SinkSeen) → p.failed ≡ false → q.failed ≡ false
     → q.waiting.items ≡ p.waiting.items ++ piece → PrinterAdds piece p x q x
 adds_waiting {p} {q} piece x before after waits =

@@ -1,4 +1,4 @@
--- Lines that stand deeper by a path are printed alike.
+-- Lines that are deeper by a path are printed alike.
 use Rattle.std.proofs.Common.{◌≡◌, ℕ, List, [], ◌∷◌, ◌++◌, map, refl, ap, sym, ◌∙◌}
 use Rattle.std.specs.Prelude.{Option, Some, None, replicate}
 use Rattle.std.specs.List.{flat_map}

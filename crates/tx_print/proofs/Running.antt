@@ -121,7 +121,7 @@ unlike_apart at look [] h = tt
 unlike_apart at look (None ∷ cells) h = later_apart at look (runs_from (at + 1 + 1) cells) (begins (at + 1 + 1) cells)
 unlike_apart at look (Some other ∷ cells) h = unlike_here at look other (runs_from (at + 1 + 1) cells) h
 
--- cells that look the same, and behind them none that does
+-- cells that look the same, and after them none that does
 longest : (n at : ℕ) (look : CellLook) (cells : List (Option CellLook)) → Unlike look cells
     → runs_from at (replicate (suc n) (Some look) ++ cells)
     ≡ run_with at (at + suc n) look ∷ runs_from (at + suc n) cells
@@ -140,12 +140,12 @@ blanks (suc n) at cells =
     let e : at + 1 + n ≡ at + suc n = omega arith in
     blanks n (at + 1) cells ∙ ap (λ k. runs_from k cells) e
 
--- a run begins before the column behind its last cell
+-- a run begins before the column after its last cell
 abbrev pub IsOpen : Option OpenRun → ℕ → Type 0
 IsOpen None at = Unit {0}
 IsOpen (Some run) at = run.from < at
 
--- some cells more behind none that have begun a run
+-- some cells more, where no run has begun before them
 opens : (look : Option CellLook) (at n : ℕ) (rest : List (Option CellLook))
     → runs_from at (replicate n look ++ rest) ≡ runs_behind (run_begun look at) (at + n) rest
 opens None at n rest = blanks n at rest

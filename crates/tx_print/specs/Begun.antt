@@ -30,7 +30,7 @@ abbrev pub run_begun : Option CellLook → ℕ → Option OpenRun
 run_begun (Some look) at = Some (record { from = at; look = look })
 run_begun None at = None
 
--- what has begun behind cells at a column
+-- the run that has begun after the cells at a column
 abbrev pub run_going_on : Option OpenRun → Option CellLook → ℕ → Option OpenRun
 run_going_on None look at = run_begun look at
 run_going_on (Some run) look at = if is_like look run.look then Some run else run_begun look at

@@ -1,4 +1,4 @@
--- How the places behind the cells of a view are printed.
+-- How the places at the cells of a view are printed.
 use Rattle.std.specs.Prelude.{ℕ, List, ◌∷◌, ◌++◌, length, decimal, codes, Option, Some, None}
 use Rattle.tx_tree.specs.PathSpelling.{place_text}
 use Rattle.tx_origin.specs.RelativePlaces.{BasedPlace}
@@ -14,6 +14,6 @@ abbrev pub place_or : List ℕ → Option BasedPlace → List ℕ
 place_or otherwise (Some p) = line (place_text (whole_path p) p.offset)
 place_or otherwise None = otherwise
 
--- the place behind a row and a column
+-- the place at a row and a column
 abbrev pub place_reply : WideView → ℕ → ℕ → ℕ → List ℕ
 place_reply v width r c = place_or (no_cell v width) (position_in v.units width r c)

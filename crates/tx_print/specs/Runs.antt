@@ -43,7 +43,7 @@ pub record CellRun : Type 0 where
   pub to : ℕ
   pub look : CellLook
 
--- a cell at a column, before the runs behind it: it makes the first of them longer, or is a run of its own
+-- a cell at a column, before the runs after it: it makes the first of them longer, or is a run of its own
 abbrev pub cell_before : ℕ → CellLook → List CellRun → List CellRun
 cell_before at look [] = record { from = at; to = at + 1; look = look } ∷ []
 cell_before at look (r ∷ rs) =
@@ -54,12 +54,12 @@ abbrev pub runs_before : ℕ → Option CellLook → List CellRun → List CellR
 runs_before at (Some look) rs = cell_before at look rs
 runs_before at None rs = rs
 
--- the longest runs of cells, of which the first stands at a column
+-- the longest runs of cells, of which the first is at a column
 abbrev pub runs_from : ℕ → List (Option CellLook) → List CellRun
 runs_from at [] = []
 runs_from at (cell ∷ cells) = runs_before at cell (runs_from (at + 1) cells)
 
--- the first column, the column behind the last, and the attributes
+-- the first column, the column after the last, and the attributes
 abbrev pub run_text : CellRun → List ℕ
 run_text r =
     line (decimal r.from ++ 32 ∷ decimal r.to ++ 32 ∷ shown r.look.series ++ 32 ∷ shown r.look.shape

@@ -1,4 +1,4 @@
--- What printing a text to a sink comes to.
+-- The result of printing a text to a sink.
 use Rattle.std.specs.Prelude.{◌≡◌, ℕ, List, Option, Result, Ok, Err}
 use Rattle.std.specs.Io.KnownBytes.{append_known}
 use Rattle.tx_outside.specs.declared.faults.WriteFault.{WriteFault}

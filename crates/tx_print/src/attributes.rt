@@ -70,7 +70,7 @@ fn push_run<O: Sink>(printer: &mut Printer, run: &Begun<'_>, to: u128, out: &mut
     printer.push(b"\n", out);
 }
 
-// The run that begins at a column behind which cells look so, or None where they aren't those of a cluster.
+// The run that begins at a column where cells look like this, or None where they aren't those of a cluster.
 fn opened<'a>(look: Option<&'a Look>, at: u128) -> Option<Begun<'a>>
     ensures { open_run_in result ≡ run_begun (looks_in (option_copied look.entry)) at }
 {
@@ -80,7 +80,7 @@ fn opened<'a>(look: Option<&'a Look>, at: u128) -> Option<Begun<'a>>
     }
 }
 
-// Goes on with the run that has begun, or prints it and begins another one, at a column behind which cells look so.
+// Goes on with the run that has begun, or prints it and begins another one, at a column where cells look like this.
 fn go_on<'a, O: Sink>(
     printer: &mut Printer,
     begun: Option<Begun<'a>>,
@@ -137,8 +137,8 @@ fn push_attributes<O: Sink>(printer: &mut Printer, view: &View, r: u32, out: &mu
 }
 
 /// Prints a line for each longest run of cells of clusters in row r that have the same three attributes: its first
-/// column, the column behind its last, `font-series`, `font-shape` and `color`, in display text. The cells of the
-/// indent and of gaps have no attributes. Past the last row it prints `no cell ROWS WIDTH`.
+/// column, the column after its last, `font-series`, `font-shape` and `color`, in display text. The cells of the indent
+/// and of gaps have no attributes. Past the last row it prints `no cell ROWS WIDTH`.
 pub fn print_attrs<O: Sink>(view: &View, r: u32, out: &mut O) -> Result<(), WriteFault>
     ensures { IsPrinted result (attrs_reply view.now.shown view.now.width r) (O.seen out.old) (O.seen out.new) }
 {

@@ -1,9 +1,9 @@
 //! What is printed of a view, of a place and of a count of steps, without memory.
 //!
 //! The texts are definitions of `specs/` over what the view shows: pages in `Pages.antt`, errors in `Errors.antt`, the
-//! place behind a cell in `Places.antt`, and the attributes of a row in `Runs.antt`. That of a count is in `Work.antt`.
-//! What printing comes to says `IsPrinted` of `specs/Writing.antt`: the text is written, or after a fault of the sink a
-//! part of it, from its start on.
+//! place at a cell in `Places.antt`, and the attributes of a row in `Runs.antt`. That of a count is in `Work.antt`. The
+//! result of printing is `IsPrinted` of `specs/Writing.antt`: the text is written, or after a fault of the sink a part
+//! of it, from its start on.
 #![tactic(auto)]
 
 mod attributes;

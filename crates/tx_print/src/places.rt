@@ -59,7 +59,7 @@ fn push_offset<O: Sink>(printer: &mut Printer, offset: u32, out: &mut O)
     push_numbered(printer, b"/", offset, out);
 }
 
-// Prints the line of a place that is told from the path of a unit.
+// Prints the line of a place that is given from the path of a unit.
 fn push_spot<O: Sink>(printer: &mut Printer, spot: &Spot<'_>, out: &mut O)
     ensures { PrinterAdds (line (place_text (whole_path spot.now) spot.now.offset))
         printer.old (O.seen out.old) printer.new (O.seen out.new) }
@@ -74,7 +74,7 @@ fn push_spot<O: Sink>(printer: &mut Printer, spot: &Spot<'_>, out: &mut O)
     }
 }
 
-// Prints the place behind a row and a column, or that there is no such cell.
+// Prints the place at a row and a column, or that there is no such cell.
 fn push_place_at<O: Sink>(printer: &mut Printer, view: &View, r: u32, c: u32, out: &mut O)
     ensures { PrinterAdds (place_reply view.now.shown view.now.width r c) printer.old (O.seen out.old)
         printer.new (O.seen out.new) }
@@ -85,7 +85,7 @@ fn push_place_at<O: Sink>(printer: &mut Printer, view: &View, r: u32, c: u32, ou
     }
 }
 
-/// Prints the place of the document behind column c of row r, or `no cell ROWS WIDTH`, with the number of rows and the
+/// Prints the place of the document at column c of row r, or `no cell ROWS WIDTH`, with the number of rows and the
 /// width of the page, past the last row or column. Both are counted from 0.
 pub fn print_place<O: Sink>(view: &View, r: u32, c: u32, out: &mut O) -> Result<(), WriteFault>
     ensures { IsPrinted result (place_reply view.now.shown view.now.width r c) (O.seen out.old) (O.seen out.new) }

@@ -5,7 +5,7 @@ ghost use Rattle.tx_print.specs.Printers.{PrinterAdds, Ends};
 use arrayvec::ArrayVec;
 use tx_outside::{Sink, WriteFault, write_all};
 
-/// Bytes that wait to be written. Once the sink has failed no more is written, and the last call tells the fault.
+/// Bytes that wait to be written. Once the sink has failed no more is written, and the last call returns the fault.
 #[derive(Drop)]
 pub(crate) struct Printer {
     waiting: ArrayVec<u8, 4096>,
@@ -62,7 +62,7 @@ impl Printer {
         }
     }
 
-    /// Writes what waits, and tells whether the sink has failed.
+    /// Writes what waits, and returns whether the sink has failed.
     pub(crate) fn finish<O: Sink>(mut self, out: &mut O) -> Result<(), WriteFault>
         ensures { Ends result self (O.seen out.old) (O.seen out.new) }
     {

@@ -36,7 +36,7 @@ fn misspelled<S: Store>(
 }
 
 /// Why the words of a command line are refused, as a text for people without a line's end, or None where they aren't.
-/// Words that ask for help are told the commands of a script.
+/// For words that ask for help the text is the commands of a script.
 pub fn refused_because(alloc: Global, words: &[String]) -> Result<Option<String>, Memory> {
     faulty_because(alloc, words)
 }

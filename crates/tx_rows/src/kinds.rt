@@ -1,4 +1,4 @@
-// The kinds of rows, and the answer to a row of each kind.
+// The kinds of rows, and the result of a row of each kind.
 use crate::applying::answer_apply;
 use crate::clustering::answer_clusters;
 use crate::evaluating::{answer_eval, answer_value};
@@ -55,7 +55,7 @@ pub(crate) fn kind_of(word: &str, rest: &str) -> Option<Kind> {
     }
 }
 
-// Appends the answer to a row of this kind. None where the row has none, as where its tree can't be read, and where
+// Appends the result of a row of this kind. None where the row has none, as where its tree can't be read, and where
 // memory runs out.
 pub(crate) fn push_answer<L: Ledger>(
     alloc: Global,

@@ -26,7 +26,7 @@ pub(crate) enum Line<'a> {
     Faulty,
 }
 
-// A number, a space and a text that stands so many times.
+// A number, a space and a text that is repeated so many times.
 fn repeated_line<'a>(mark: Mark, rest: &'a str) -> Line<'a> {
     let Some((count, text)) = rest.split_once(' ') else {
         return Line::Faulty;

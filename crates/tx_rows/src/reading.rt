@@ -6,7 +6,7 @@ use tx_base::Steps;
 use tx_doc::Form;
 use tx_tree::{ReadFault, Tree, Which};
 
-// The words of a fault, and the number that stands last.
+// The words of a fault, and the number that comes last.
 fn words_of(fault: ReadFault) -> (&'static str, usize) {
     match fault {
         ReadFault::Unclosed(at) => ("unclosed ", at),

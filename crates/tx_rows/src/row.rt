@@ -151,7 +151,7 @@ impl Row {
     }
 }
 
-// Appends the line, without its newline, that stands before the bytes of a saved file.
+// Appends the line, without its newline, that comes before the bytes of a saved file.
 pub(crate) fn push_saved(name: &[u8], out: &mut Vec<u8>) -> Option<()> {
     out.extend_from_slice(b"saved ").ok()?;
     out.extend_from_slice(name).ok()

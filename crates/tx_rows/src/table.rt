@@ -36,7 +36,7 @@ fn report_at(alloc: Global, name: &str, number: usize, report: &mut Vec<u8>) -> 
     push_text(": ", report)
 }
 
-// Reports the first line in which the answer differs.
+// Reports the first line in which the result differs.
 fn report_difference(
     alloc: Global,
     name: &str,
@@ -57,7 +57,7 @@ fn report_difference(
     push_text("\n", report)
 }
 
-// Whether the answer is the lines that are wanted, with a newline after each.
+// Whether the result is the lines that are wanted, with a newline after each.
 fn is_wanted(row: &Row, answer: &[u8]) -> bool {
     let wanted = row.wanted.bytes.as_slice();
     if row.wanted.is_empty() {
@@ -70,7 +70,7 @@ fn is_wanted(row: &Row, answer: &[u8]) -> bool {
 }
 
 impl<'a> Table<'a> {
-    // The answer to the row that was read. None where it has none.
+    // The result of the row that was read. None where it has none.
     fn answer<L: Ledger>(&mut self, alloc: Global, steps: &mut Steps<L>) -> Option<Vec<u8>> {
         let mut answer = Vec::new(alloc);
         push_answer(

@@ -13,14 +13,14 @@ use tx_base::Steps;
 use tx_doc::{Buffer, Name};
 use tx_tree::Tree;
 
-/// The tree that the words spell in the Scheme syntax. None where they spell none, and for want of memory.
+/// The tree that the words spell in the Scheme syntax. None where they spell none, and when out of memory.
 pub fn tree_of<L: Ledger>(alloc: Global, words: &str, steps: &mut Steps<L>) -> Option<Tree>
     ensures { IfSome result (λ t. Spells words.now t) }
 {
     tx_scm::read(alloc, words.as_bytes(), steps).ok()
 }
 
-/// The buffer of this name with the tree that the words spell. None where they spell none, and for want of memory.
+/// The buffer of this name with the tree that the words spell. None where they spell none, and when out of memory.
 pub fn buffer_of<L: Ledger>(
     alloc: Global,
     name: &str,
@@ -35,8 +35,8 @@ pub fn buffer_of<L: Ledger>(
     Some(Buffer { name, tree })
 }
 
-/// The buffers that are told: of each a name, a space and a tree, with `;` between them. None where one isn't told so,
-/// and for want of memory.
+/// The buffers that are given in words: of each a name, a space and a tree, with `;` between them. None where one has
+/// another form, and when out of memory.
 pub fn told_buffers<L: Ledger>(
     alloc: Global,
     told: &str,

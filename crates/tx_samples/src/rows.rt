@@ -7,11 +7,11 @@ use tx_base::Steps;
 
 /// A row of a table.
 pub trait Row {
-    /// Whether what the row says is so. None where that can't be told, as for want of memory.
+    /// Whether the row holds. None where that can't be decided, as when out of memory.
     fn holds<L: Ledger>(&self, alloc: Global, steps: &mut Steps<L>) -> Option<bool>;
 }
 
-/// The number of the first row that doesn't hold, or of which it can't be told.
+/// The number of the first row that doesn't hold, or that can't be decided.
 pub fn first_untrue<L: Ledger, R: Row>(alloc: Global, rows: &[R], blank: Blank) -> Option<usize>
     requires name { blank.name ≡ L.name }
     requires parts { blank.parts ≡ L.parts }

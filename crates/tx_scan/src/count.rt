@@ -28,7 +28,7 @@ fn count_in_block(bytes: &[u8], at: usize, b: u8) -> usize
     block.simd_eq(u8x32::splat(b)).to_bitmask().count_ones() as usize
 }
 
-// The same as `count_of`, a byte at a time.
+// Returns what `count_of` returns, a byte at a time.
 fn count_one_by_one(bytes: &[u8], b: u8) -> usize
     ensures { result ≡ count_by (λ x. x == b) bytes.now }
 {

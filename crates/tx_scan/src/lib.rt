@@ -1,8 +1,8 @@
 //! Byte search by lanes: where a run of plain bytes ends, and how many places hold a byte.
 //!
-//! Both calls look at 32 bytes at a time and then at the rest one by one. What they answer is said
-//! without that: `is_stop` tests one byte, `first_stop_from` is the least place that passes it, and a
-//! count is `count_by` of std. Nothing here takes memory.
+//! Both calls look at 32 bytes at a time and then at the rest one by one. What they return is said without that:
+//! `is_stop` tests one byte, `first_stop_from` is the least place that passes it, and a count is `count_by` of std.
+//! Nothing here takes memory.
 #![tactic(auto)]
 
 mod count;

@@ -27,7 +27,7 @@ pub fn first_stop(bytes: &[u8], from: usize, stops: &Stops) -> usize
     first_stop_one_by_one(bytes, at, stops)
 }
 
-// The same, a byte at a time.
+// Returns what `first_stop` returns, a byte at a time.
 fn first_stop_one_by_one(bytes: &[u8], from: usize, stops: &Stops) -> usize
     requires { from ≤ length bytes.now }
     ensures { result ≡ first_stop_from stops.now bytes.now from }

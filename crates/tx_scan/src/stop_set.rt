@@ -38,8 +38,7 @@ impl Model for Stops {
 }
 
 impl Stops {
-    /// The stops of `set`, or `None` where it has more than eight bytes. It may be empty, and a byte
-    /// may stand in it twice.
+    /// The stops of `set`, or `None` where it has more than eight bytes. It may be empty, and may have a byte twice.
     pub fn new(set: &[u8]) -> Option<Stops>
         ensures some { IsSome result ↔ (length set.now ≤ 8) }
         ensures value { IfSome result (λ stops. stops ≡ set.now) }

@@ -10,14 +10,14 @@ ghost use Rattle.tx_scm.specs.Faults.{IsSchemeFault};
 ghost use Rattle.tx_scm.specs.Spots.{scan_goes_on};
 ghost use Rattle.tx_scm.specs.Canonical.{scheme_text};
 
-/// The same bytes spell at most one tree, and a well formed one, within the limits or not.
+/// Bytes spell at most one tree, and a well formed one, within the limits or not.
 pub fn spelling_laws()
     ensures once { (bytes : List ℕ) (t u : WideTree) → Spells bytes t → Spells bytes u → t ≡ u }
     ensures well_formed { (bytes : List ℕ) (t : WideTree) → Spells bytes t → IsWellFormed t }
 {}
 
 /// First bytes can be continued to bytes that spell a tree exactly where the scan, which takes bytes one by one, goes
-/// on behind them: what stands open has a closing text, and behind a byte that can't be taken no bytes help.
+/// on after them. What is open has a closing text, and after a byte that can't be taken no bytes help.
 pub fn scan_goes_on_along_fronts()
     ensures closed { (bytes : List ℕ) → scan_goes_on bytes ≡ true
         → (more : List ℕ) × SpellsSome Spells (bytes ++ more) }
@@ -39,7 +39,7 @@ pub fn fault_laws()
         → ((t : WideTree) × Spells bytes t × IsWithinLimits t) ⊎ ((f : ReadFault) × IsSchemeFault bytes f) }
 {}
 
-/// The canonical text of a tree spells that tree and no other, and still does with a newline behind it.
+/// The canonical text of a tree spells that tree and no other, and still does with a newline after it.
 pub fn canonical_laws()
     ensures text { (t : WideTree) → IsWellFormed t → SpellsAlone (scheme_text t) t }
     ensures line { (t : WideTree) → IsWellFormed t → SpellsAlone (scheme_text t ++ 10 ∷ []) t }

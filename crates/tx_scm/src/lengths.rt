@@ -1,5 +1,4 @@
-// The length of the canonical text. A count stands still at its greatest value, which no text within the limits
-// reaches.
+// The length of the canonical text. A count stops at its greatest value, which no text within the limits reaches.
 ghost use Rattle.std.specs.Prelude.{◌≡◌, ◌<◌, ◌+◌, ◌^◌, length};
 ghost use Rattle.std.specs.List.{flat_map};
 ghost use Rattle.tx_scm.specs.Spelling.{escaped};
@@ -15,7 +14,7 @@ fn plus(count: u64, more: u64) -> u64
     count.saturating_add(more)
 }
 
-// The length of a text as it stands in a string: each quote and each backslash takes one byte more.
+// The length of a text as it is written in a string: each quote and each backslash takes one byte more.
 #[tactic(auto, using(crate::proofs::Escapes::escaped_length))]
 fn escaped_length(bytes: &[u8]) -> u64
     ensures { result ≡ capped (length (flat_map escaped bytes.now)) }

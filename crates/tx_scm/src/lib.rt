@@ -1,6 +1,6 @@
 //! The Scheme syntax of trees: a reader, a writer, and a plain recogniser.
 //!
-//! A tree stands as a string, or as a bracket with a label and the children. Which bytes spell which tree is
+//! A tree is written as a string, or as a bracket with a label and the children. Which bytes spell which tree is
 //! `Spells` (`specs/Spelling.antt`), and the writer's text is `scheme_text` (`specs/Canonical.antt`).
 #![tactic(auto)]
 

@@ -13,14 +13,14 @@ use std::alloc::Global;
 use tx_base::Memory;
 use tx_tree::{MOST_ARITY, MOST_DEPTH, MOST_TEXT, Which};
 
-/// In which part of the syntax measuring stands.
+/// The part of the syntax in which measuring is.
 #[derive(Clone, Copy, Debug, PartialEq, Eq)]
 pub(crate) enum Part {
     /// Outside strings.
     Outside,
-    /// In a string, behind so many bytes of its text.
+    /// In a string, after so many bytes of its text.
     Inside(usize),
-    /// There, behind a backslash.
+    /// In a string, after so many bytes of its text and a backslash.
     Escaped(usize),
 }
 
@@ -113,7 +113,7 @@ fn inside_step(mut gauge: Gauge, length: usize, kind: Kind) -> Result<Gauge, Mem
     }
 }
 
-// Behind one byte more.
+// The measures after one byte more.
 fn step(gauge: Gauge, kind: Kind) -> Result<Gauge, Memory>
     requires { IsSmallGauge (2 ^ 63) (gauge_of gauge) }
     ensures { IfOk result (λ next. gauge_of next ≡ step (gauge_of gauge) kind) }

@@ -4,7 +4,7 @@ ghost use Rattle.tx_tree.specs.Labels.{is_label_byte};
 
 use tx_tree::is_label_byte;
 
-// How many of the bytes at the front may stand in a label.
+// How many of the bytes at the front a label may have.
 pub(crate) fn letters_len(bytes: &[u8]) -> usize
     ensures within { result ≤ length bytes.now }
     ensures each { All (λ b. is_label_byte b ≡ true) (take result bytes.now) }

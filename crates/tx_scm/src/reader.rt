@@ -30,7 +30,7 @@ use tx_tree::{
     TreeFault,
 };
 
-// Whether one tree more may stand in the innermost bracket.
+// Whether there is room for one tree more in the innermost bracket.
 fn has_tree_room(brackets: &Vec<Bracket>) -> bool
     ensures { result ≡ has_tree_room the_limits (opens_of brackets.now.items) }
 {
@@ -185,7 +185,7 @@ impl Reader {
         }
     }
 
-    // Takes a closing bracket, and answers whether a tree goes on so.
+    // Takes a closing bracket, and returns whether a tree goes on with it.
     #[tactic(auto, unfolding(crate::specs::Machine::step_between))]
     fn close<L: Ledger>(&mut self, steps: &mut Steps<L>) -> Result<bool, Memory>
         requires whole { self.now.whole ≡ None }
@@ -209,8 +209,8 @@ impl Reader {
         }
     }
 
-    // Takes the token whose first byte stands at `at`, and answers the place behind it, or None where no tree goes on
-    // so.
+    // Takes the token whose first byte is at `at`, and returns the place after it, or None where no tree goes on with
+    // it.
     fn take<L: Ledger>(
         &mut self,
         bytes: &[u8],
@@ -294,7 +294,7 @@ fn fault(alloc: Global, bytes: &[u8]) -> Result<ReadFault, Memory>
 
 /// The tree that the bytes spell.
 ///
-/// Whatever it answers, the steps rise by at most the bytes, and where the bytes spell a tree by at most the nodes of
+/// Whatever it returns, the steps rise by at most the bytes, and where the bytes spell a tree by at most the nodes of
 /// the tree that aren't leaves, also where the tree is past the limits. A fault, but for `Memory`, is the one that the
 /// bytes have, by the table of `specs/Faults.antt`; it comes exactly where they spell no tree within the limits.
 pub fn read<L: Ledger>(alloc: Global, bytes: &[u8], steps: &mut Steps<L>) -> Result<Tree, ReadFault>

@@ -8,7 +8,7 @@ use std::alloc::Global;
 use tx_base::Memory;
 use tx_tree::Tree;
 
-// The place behind the white that stands at `at`.
+// The place after the white at `at`.
 pub(crate) fn behind_white(bytes: &[u8], at: usize) -> usize
     requires { at ≤ length bytes.now }
     ensures from { at ≤ result }
@@ -23,7 +23,7 @@ pub(crate) fn behind_white(bytes: &[u8], at: usize) -> usize
     bytes.len()
 }
 
-// The place behind the wanted bytes, if these stand at `at`.
+// The place after the wanted bytes, if these are at `at`.
 fn behind_bytes(bytes: &[u8], at: usize, wanted: &[u8]) -> Option<usize>
     requires { at ≤ length bytes.now }
     ensures { EndsWith bytes.now result (behind_bytes wanted.now (drop at bytes.now)) }
@@ -38,7 +38,7 @@ fn behind_bytes(bytes: &[u8], at: usize, wanted: &[u8]) -> Option<usize>
     Some(end)
 }
 
-// The place behind the tree, if bytes that spell it stand at `at`.
+// The place after the tree, if bytes that spell it are at `at`.
 #[tactic(auto, using(tx_tree::proofs::Walks::leaf_or_node, tx_tree::proofs::Walks::item_shallower))]
 fn behind_tree(alloc: Global, bytes: &[u8], at: usize, tree: &Tree) -> Result<Option<usize>, Memory>
     requires { at ≤ length bytes.now }

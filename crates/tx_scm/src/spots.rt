@@ -10,24 +10,24 @@ ghost use Rattle.tx_scm.specs.Spots.{lengthened, texting_step, escaping_step, st
 use crate::kinds::{Kind, kind_of};
 use tx_tree::{MOST_LABEL, ReadFault, TextPlace};
 
-/// Where a scan stands, and behind how many open brackets.
+/// Where a scan is, and in how many open brackets.
 #[derive(Clone, Copy, Debug, PartialEq, Eq)]
 pub(crate) enum Spot {
     /// Between two trees, or at the beginning.
     Between(usize),
-    /// Behind an opening bracket, before its label.
+    /// After an opening bracket, before its label.
     Opened(usize),
-    /// Behind so many bytes of a bracket's label.
+    /// After so many bytes of a bracket's label.
     Naming(usize, usize),
     /// In a string.
     Texting(TextPlace, usize),
-    /// In a string, behind a backslash.
+    /// In a string, after a backslash.
     Escaping(TextPlace, usize),
-    /// Behind the whole tree.
+    /// After the whole tree.
     Whole,
 }
 
-// Behind a tree in so many brackets.
+// The spot after a tree in so many brackets.
 fn after_tree(depth: usize) -> Spot
     ensures is { result ≡ after_tree depth }
     ensures depth { depth_in result ≤ depth }
@@ -87,7 +87,7 @@ fn naming_step(length: usize, depth: usize, kind: Kind) -> Option<Spot>
     }
 }
 
-// Behind a byte more of a text.
+// The spot after a byte more of a text.
 fn lengthened(place: TextPlace, depth: usize, byte: u8) -> Option<Spot>
     ensures is { result ≡ lengthened place depth byte }
     ensures depth { IfSome result (λ next. depth_in next ≤ depth) }
@@ -129,7 +129,7 @@ fn escaping_step(place: TextPlace, depth: usize, kind: Kind, byte: u8) -> Option
 }
 
 impl Spot {
-    // Behind one byte more, or None where no tree goes on so.
+    // The spot after one byte more, or None where no tree goes on with it.
     fn step(self, kind: Kind, byte: u8) -> Option<Spot>
         requires { depth_in self < 2 ^ 63 }
         ensures is { result ≡ step self kind byte }

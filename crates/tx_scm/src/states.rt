@@ -1,4 +1,4 @@
-// Where the reader stands.
+// Where the reader is.
 use std::alloc::Global;
 use tx_tree::{Label, LabelCache, Tree};
 
@@ -9,7 +9,7 @@ pub(crate) struct Bracket {
     pub(crate) children: Vec<Tree>,
 }
 
-/// Where the reader stands between tokens: behind which open brackets, the innermost last, or behind the whole tree.
+/// Where the reader is between tokens: in which open brackets, the innermost last, or after the whole tree.
 #[derive(Drop)]
 pub(crate) struct Reader {
     pub(crate) alloc: Global,

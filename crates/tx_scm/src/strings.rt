@@ -11,7 +11,7 @@ use tx_base::Memory;
 use tx_scan::{Stops, first_stop};
 use tx_tree::{Text, TextBuilder};
 
-// Whether the byte stands for itself in a string.
+// Whether the byte is written as it is in a string.
 fn is_plain(byte: u8) -> bool
     ensures { OnTrue result (IsPlain byte) }
 {
@@ -56,7 +56,7 @@ fn text_run(text: &mut TextBuilder, bytes: &[u8], at: usize) -> Result<Option<us
     Ok(Some(end))
 }
 
-// Whether a backslash may stand before the byte.
+// Whether a backslash may come before the byte.
 fn is_escapable(byte: u8) -> bool
     ensures yes { OnTrue result ((byte ≡ 34) ⊎ (byte ≡ 92)) }
     ensures no { OnFalse result ((byte ≢ 34) × (byte ≢ 92)) }
@@ -64,7 +64,7 @@ fn is_escapable(byte: u8) -> bool
     byte == b'"' || byte == b'\\'
 }
 
-// Adds the byte behind the backslash at `at`, and answers the place behind it, or None where no text goes on so.
+// Adds the byte after the backslash at `at`, and returns the place after it, or None where no text goes on with it.
 fn escaped_byte(text: &mut TextBuilder, bytes: &[u8], at: usize) -> Result<Option<usize>, Memory>
     requires at { at < length bytes.now }
     requires backslash { get_or bytes.now at 0 ≡ 92 }
@@ -84,7 +84,7 @@ fn escaped_byte(text: &mut TextBuilder, bytes: &[u8], at: usize) -> Result<Optio
     Ok(Some(at + 2))
 }
 
-// Adds what stands at `at`, which is no quote, and answers the place behind it, or None where no text goes on so.
+// Adds what is at `at`, which is no quote, and returns the place after it, or None where no text goes on with it.
 fn string_part(text: &mut TextBuilder, bytes: &[u8], at: usize) -> Result<Option<usize>, Memory>
     requires at { at < length bytes.now }
     requires no_quote { get_or bytes.now at 0 ≢ 34 }
@@ -98,7 +98,7 @@ fn string_part(text: &mut TextBuilder, bytes: &[u8], at: usize) -> Result<Option
     }
 }
 
-// The text of the string whose bytes begin at `at`, and the place behind its last quote, or None where there is none.
+// The text of the string whose bytes begin at `at`, and the place after its last quote, or None where there is none.
 pub(crate) fn string_text(
     alloc: Global,
     bytes: &[u8],

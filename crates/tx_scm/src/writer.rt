@@ -7,7 +7,7 @@ ghost use Rattle.tx_scm.specs.Canonical.{scheme_text};
 use tx_base::Memory;
 use tx_tree::Tree;
 
-// Appends the bytes of a text as they stand in a string.
+// Appends the bytes of a text as they are written in a string.
 fn append_escaped(bytes: &[u8], out: &mut Vec<u8>) -> Result<(), Memory>
     ensures ok { OnOk result (out.new.items ≡ out.old.items ++ flat_map escaped bytes.now) }
     ensures grows { take (length out.old.items) out.new.items ≡ out.old.items }

@@ -1,5 +1,5 @@
--- What methods of a session answer is the reply to their commands.
-use Rattle.std.proofs.Common.{◌≡◌, ◌≢◌, ◌||◌, ℕ, Bool, true, false, not, List, Option, None, Result, Ok, Err}
+-- What methods of a session return is the reply to their commands.
+use Rattle.std.proofs.Common.{◌≡◌, ◌≢◌, ◌||◌, ℕ, Bool, true, false, not, List, Option, Some, None, Result, Ok, Err}
 use Rattle.std.proofs.Common.{refl, ap}
 use Rattle.std.proofs.Common.{sym, subst, ◌∙◌}
 use Rattle.std.specs.Prelude.{IfOk, IfErr, OnErr}
@@ -9,12 +9,14 @@ use Rattle.tx_outside.proofs.GoingOn.{store_goes_on_refl}
 use Rattle.tx_outside.specs.Outside.{StoreSeen}
 use Rattle.tx_tree.specs.WideTree.{WideTree}
 use Rattle.tx_tree.specs.declared.places.Place.{Place}
+use Rattle.tx_mod.specs.declared.faults.ModFault.{ModFault}
 use Rattle.tx_mod.specs.declared.mods.Mod.{Mod}
 use Rattle.tx_mod.specs.InTurn.{AreSoundMods}
 use Rattle.tx_doc.specs.declared.buffer.Buffer.{Buffer}
+use Rattle.tx_doc.specs.Buffers.{tree_of}
 use Rattle.tx_state.specs.States.{State}
 use Rattle.tx_state.specs.Edits.{edited}
-use Rattle.tx_state.specs.Leaving.{leaving}
+use Rattle.tx_state.specs.Leaving.{leaving, tree_without}
 use Rattle.tx_state.specs.declared.edits.Edit.{Edit as StateEdit}
 use Rattle.tx_state.specs.declared.faults.LeaveFault.{LeaveFault}
 use Rattle.tx_state.specs.declared.faults.LeaveFault.TheVariants as leaves
@@ -115,7 +117,7 @@ key_changed before after mods to unsaved reply h = absurd h
 key_changed before after mods to (told n) reply h = absurd h
 
 pub leave_replied : (n : ℕ) (before after : SeenSession) (store : StoreSeen) (mark : LineMark) (reply : List ℕ)
-    → IsLeaveChange (leaving n before.state) before mark after reply
+    → IsLeaveChange n (leaving n before.state) before mark after reply
     → IsReply (record { session = before; store = store }) (UndoAt n) mark
     (record { session = after; store = store }) reply
 leave_replied n before after store plain reply h =
@@ -125,38 +127,48 @@ leave_replied n before after store unsaved reply h = absurd h
 leave_replied n before after store (told k) reply h = absurd h
 
 -- the edit that takes an earlier one back was done or refused
-pub leave_changed : (r : Result StateEdit LeaveFault) (edit : StateEdit) (before after : SeenSession) (mark : LineMark)
-    (reply : List ℕ) → r ≡ Ok edit → AreSoundMods edit.mods
-    → IsChange (edited edit before.state) before mark after reply → IsLeaveChange r before mark after reply
-leave_changed r edit before after mark reply e sound h =
-    subst (λ o. IsLeaveChange o before mark after reply) (sym e) (by_mark mark h)
+pub leave_changed : (n : ℕ) (r : Result StateEdit LeaveFault) (edit : StateEdit) (before after : SeenSession)
+    (mark : LineMark) (reply : List ℕ) → r ≡ Ok edit → AreSoundMods edit.mods
+    → ((next : State) → edited edit before.state ≡ Ok next
+    → tree_without n before.state ≡ Some (tree_of next.buffers edit.buffer))
+    → IsChange (edited edit before.state) before mark after reply → IsLeaveChange n r before mark after reply
+leave_changed n r edit before after mark reply e sound left h =
+    subst (λ o. IsLeaveChange n o before mark after reply) (sym e) (by_mark mark h)
   where
+    IsLeft : State → Type 0
+    IsLeft made = tree_without n before.state ≡ Some (tree_of made.buffers edit.buffer)
+
+    where_done : (outcome : Result State ModFault) → ((next : State) → outcome ≡ Ok next → IsLeft next)
+        → IfOk outcome IsLeft
+    where_done (Ok next) left = left next refl
+    where_done (Err cause) left = cc
+
     by_mark : (mark : LineMark) → IsChange (edited edit before.state) before mark after reply
-        → IsLeaveChange (Ok edit) before mark after reply
-    by_mark plain h = ((sound, h.0), h.1)
+        → IsLeaveChange n (Ok edit) before mark after reply
+    by_mark plain h = ((sound, where_done (edited edit before.state) left, h.0), h.1)
     by_mark lacking h = h
     by_mark unsaved h = absurd h
-    by_mark (told n) h = absurd h
+    by_mark (told k) h = absurd h
 
 -- what was said where an earlier edit can't be taken back, or memory ran out
 abbrev pub IsLeftReply : LeaveFault → Reply → Type 0
 IsLeftReply fault reply =
     (fault ≢ leaves.Memory → Says reply (leave_reply fault)) × (fault ≡ leaves.Memory → reply ≡ Wanting)
 
-abbrev StaysLeft : Result StateEdit LeaveFault → SeenSession → LineMark → List ℕ → Type 0
-StaysLeft r seen mark text = IsLeaveChange r seen mark seen text
+abbrev StaysLeft : ℕ → Result StateEdit LeaveFault → SeenSession → LineMark → List ℕ → Type 0
+StaysLeft n r seen mark text = IsLeaveChange n r seen mark seen text
 
-named_left : (fault : LeaveFault) (r : Result StateEdit LeaveFault) (seen : SeenSession) (reply : Reply)
+named_left : (n : ℕ) (fault : LeaveFault) (r : Result StateEdit LeaveFault) (seen : SeenSession) (reply : Reply)
     → fault ≢ leaves.Memory → Says reply (leave_reply fault) → r ≡ Err fault
-    → StaysLeft r seen (reply_mark reply) (reply_text reply)
-named_left fault r seen reply named says e =
-    subst (λ o. StaysLeft o seen (reply_mark reply) (reply_text reply)) (sym e) (by_reply reply says)
+    → StaysLeft n r seen (reply_mark reply) (reply_text reply)
+named_left n fault r seen reply named says e =
+    subst (λ o. StaysLeft n o seen (reply_mark reply) (reply_text reply)) (sym e) (by_reply reply says)
   where
     unchanged : IsKeptView true seen seen
     unchanged = record { width = refl; height = refl; fresh = refl }
 
     by_reply : (reply : Reply) → Says reply (leave_reply fault)
-        → StaysLeft (Err fault) seen (reply_mark reply) (reply_text reply)
+        → StaysLeft n (Err fault) seen (reply_mark reply) (reply_text reply)
     by_reply Done says = ((named, refl, says), unchanged)
     by_reply (Fixed text) says = ((named, refl, says), unchanged)
     by_reply (Made text) says = ((named, refl, says), unchanged)
@@ -164,17 +176,17 @@ named_left fault r seen reply named says e =
     by_reply Unsaved says = absurd says
 
 -- an earlier edit that can't be taken back changes nothing
-pub not_left_changed : (fault : LeaveFault) (r : Result StateEdit LeaveFault) (seen : SeenSession) (reply : Reply)
+pub not_left_changed : (n : ℕ) (fault : LeaveFault) (r : Result StateEdit LeaveFault) (seen : SeenSession) (reply : Reply)
     → IsLeftReply fault reply → (fault ≢ leaves.Memory → r ≡ Err fault)
-    → IsLeaveChange r seen (reply_mark reply) seen (reply_text reply)
-not_left_changed leaves.Nothing r seen reply h e =
-    named_left leaves.Nothing r seen reply (λ f. cc) (h.0 (λ f. cc)) (e (λ f. cc))
-not_left_changed (leaves.Entangled j) r seen reply h e =
-    named_left (leaves.Entangled j) r seen reply (λ f. cc) (h.0 (λ f. cc)) (e (λ f. cc))
-not_left_changed (leaves.Refused cause) r seen reply h e =
-    named_left (leaves.Refused cause) r seen reply (λ f. cc) (h.0 (λ f. cc)) (e (λ f. cc))
-not_left_changed leaves.Memory r seen reply h e =
-    subst (λ x. IsLeaveChange r seen (reply_mark x) seen (reply_text x)) (sym (h.1 refl)) (refl, refl)
+    → IsLeaveChange n r seen (reply_mark reply) seen (reply_text reply)
+not_left_changed n leaves.Nothing r seen reply h e =
+    named_left n leaves.Nothing r seen reply (λ f. cc) (h.0 (λ f. cc)) (e (λ f. cc))
+not_left_changed n (leaves.Entangled j) r seen reply h e =
+    named_left n (leaves.Entangled j) r seen reply (λ f. cc) (h.0 (λ f. cc)) (e (λ f. cc))
+not_left_changed n (leaves.Refused cause) r seen reply h e =
+    named_left n (leaves.Refused cause) r seen reply (λ f. cc) (h.0 (λ f. cc)) (e (λ f. cc))
+not_left_changed n leaves.Memory r seen reply h e =
+    subst (λ x. IsLeaveChange n r seen (reply_mark x) seen (reply_text x)) (sym (h.1 refl)) (refl, refl)
 
 -- what was said where a key does nothing, or memory ran out
 abbrev pub IsIdleReply : EditFault → Reply → Type 0
@@ -213,7 +225,7 @@ named_arrival fault outcome state reply named h e =
     subst (λ o. IsArrival o state (reply_mark reply) state (reply_text reply)) (sym e)
     (subst (λ m. IsArrival (Err fault) state m state (reply_text reply)) (sym said.1) (named, refl, said.0))
 
--- the same of the state alone
+-- where the key has this fault, the state is unchanged and its reply is the fault's
 pub idle_arrival : (fault : EditFault) (outcome : Result Move EditFault) (state : State) (reply : Reply)
     → IsIdleReply fault reply → (fault ≢ Memory → outcome ≡ Err fault)
     → IsArrival outcome state (reply_mark reply) state (reply_text reply)
@@ -240,7 +252,7 @@ edits t (Err fault) h = tt
 
 -- ---- the view
 
--- the answer to a command that prints the view
+-- the result of a command that prints the view
 pub printed_answer : (it : Command) (width height : ℕ) (state : State) (v : WideView) → Prints it
     → IsView state.buffers width height v → IsAnswer width height state it state (view_reply width v it)
 printed_answer Show width height state v p h = (v, h, (refl, refl))
@@ -356,7 +368,7 @@ pub printed_wanting : (it : Command) (before after : SeenSession) (store : Store
 printed_wanting it before after store p e f =
     lacked it before after store wanting_reply (printed_lacks it before p f) (e, refl)
 
--- the number of steps is told
+-- the reply to `work` is the number of steps
 pub work_told : (n : ℕ) (before : SeenSession) (w t : ℕ) (store : StoreSeen) → w ≡ before.width → t ≡ before.height
     → IsReply (record { session = before; store = store }) Work (told n)
     (record { session = record { state = before.state; width = w; height = t; fresh = true }; store = store })

@@ -1,4 +1,4 @@
--- A command has one answer in a state.
+-- A command has one result in a state.
 use Rattle.std.proofs.Common.{◌≡◌, inl, inr, ℕ, List, Option, Some, None, Result, Ok, Err, ap, sym, subst, ◌∙◌}
 use Rattle.std.specs.Prelude.{codes}
 use Rattle.tx_mod.specs.declared.faults.ModFault.{ModFault}
@@ -44,10 +44,10 @@ one_key state (Ok (KeyEdit mods to)) s t a b h k = one_edit state (edited (key_e
 one_key state (Ok (MoveTo to)) s t a b h k = (h.0 ∙ sym k.0, h.1 ∙ sym k.1)
 one_key state (Err fault) s t a b h k = (h.1 ∙ sym k.1, h.2 ∙ sym k.2)
 
-one_leave : (state : State) (r : Result Edit LeaveFault) (s t : State) (a b : List ℕ) → IsLeaveAnswer state r s a
-    → IsLeaveAnswer state r t b → (s ≡ t) × (a ≡ b)
-one_leave state (Ok edit) s t a b h k = one_edit state (edited edit state) s t a b h.1 k.1
-one_leave state (Err fault) s t a b h k = (h.1 ∙ sym k.1, h.2 ∙ sym k.2)
+one_leave : (n : ℕ) (state : State) (r : Result Edit LeaveFault) (s t : State) (a b : List ℕ)
+    → IsLeaveAnswer n state r s a → IsLeaveAnswer n state r t b → (s ≡ t) × (a ≡ b)
+one_leave n state (Ok edit) s t a b h k = one_edit state (edited edit state) s t a b h.2 k.2
+one_leave n state (Err fault) s t a b h k = (h.1 ∙ sym k.1, h.2 ∙ sym k.2)
 
 one_step : (state : State) (none : List ℕ) (r : Option State) (s t : State) (a b : List ℕ)
     → IsStepAnswer state none r s a → IsStepAnswer state none r t b → (s ≡ t) × (a ≡ b)
@@ -91,7 +91,7 @@ pub one_answer : (law : OneView) (width height : ℕ) (state : State) (it : Comm
 one_answer law width height state (Change m) s t a b h k =
     one_edit state (edited (selected_edit state m) state) s t a b h k
 one_answer law width height state Undo s t a b h k = one_step state (codes "no undo") (undone_state state) s t a b h k
-one_answer law width height state (UndoAt n) s t a b h k = one_leave state (leaving n state) s t a b h k
+one_answer law width height state (UndoAt n) s t a b h k = one_leave n state (leaving n state) s t a b h k
 one_answer law width height state Redo s t a b h k = one_step state (codes "no redo") (redone_state state) s t a b h k
 one_answer law width height state (At name) s t a b h k = one_choice state (number_of state.buffers name) s t a b h k
 one_answer law width height state (Go numbers) s t a b h k = one_go state numbers s t a b h k

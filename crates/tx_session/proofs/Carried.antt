@@ -1,4 +1,4 @@
--- What is kept of the view goes with edits, keys and the steps back and forth.
+-- The view's cache is carried with edits, keys and the steps back and forth.
 use Rattle.std.proofs.Common.{◌≡◌, ◌≢◌, ℕ, ◌+◌, ◌*◌, ◌≤◌, List, [], ◌∷◌, Option, Some, None, Result}
 use Rattle.std.proofs.Common.{Ok, Err, refl, ap, sym, subst, ◌∙◌, arith}
 use Rattle.std.specs.Prelude.{is_err, is_none, if◌then◌else◌}
@@ -44,7 +44,7 @@ use Rattle.tx_session.proofs.Answered.{IsIdleReply, IsLeftReply}
 pub in_turn : (ms : List Mod) (t u : WideTree) → changed_in_turn ms t ≡ Ok u → changed_by_all ms t ≡ Some u
 in_turn ms t u e = sym (same_in_turn ms t) ∙ ap tree_made e
 
--- a view that was told of a change keeps what is carried
+-- a view that was given a change has the carried cache
 pub view_carried : (v w : WholeView) (old new : List Buffer) (p : Prepared) → v.buffers ≡ old → w ≡ view_with v p
     → new ≡ with_tree old p.buffer p.tree → keep_of w ≡ carried_keep old new (keep_of v) (p.buffer, p.mods)
 view_carried v w old new p e f g =
@@ -294,7 +294,7 @@ pub edit_tried : (mods : List Mod) (r : Result State ModFault) (old new : ℕ) �
     → new ≤ old + edit_cost mods r
 edit_tried mods r old new h = omega (arith, h, both_ways mods r)
 
--- one that was made ready, and of which the view was told
+-- an edit that was made ready, and that the view was given
 pub edit_counted : (state : State) (edit : Edit) (p : Prepared) (bs : List Buffer) (old between new : ℕ)
     → edited edit state ≡ Ok (with_edit state p) → p.mods ≡ edit.mods → bs ≡ state.buffers
     → between ≤ old + cost_both_ways edit.mods
@@ -320,7 +320,7 @@ pub step_tried : (edits : List KeptEdit) (mods : Option (ℕ × List Mod)) (next
     → new ≤ old + first_cost edits → new ≤ old + step_cost edits mods next
 step_tried edits mods next old new h = omega (arith, h, first_both edits mods next)
 
--- one that was made ready, and of which the view was told
+-- a step that was made ready, and that the view was given
 step_counted : (edits : List KeptEdit) (b : ℕ) (mods : List Mod) (made_of : Option (ℕ × List Mod)) (next : Option State)
     (then_state : State) (old between new : ℕ) → edits ≢ [] → made_of ≡ Some (b, mods) → next ≡ Some then_state
     → between ≤ old + first_cost edits

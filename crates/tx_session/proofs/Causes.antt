@@ -282,7 +282,7 @@ module _ (words : List (List ℕ)) (stored first : StoreSeen) (old steps : ℕ) 
       (λ e. cut_run
       (subst (λ st. IsServed input_rose st beginning last input.left behind.left before.written after.written) e s))
 
--- the same, or memory ran out before its session began
+-- a whole run, or memory ran out before its session began
 module _ (words : List (List ℕ)) (stored first later : StoreSeen) (old mid new : ℕ) (input behind : SourceSeen)
     (all : Opened) (status : Status) (before after : SinkSeen) (loaded : KeepsFiles stored first)
     (within : mid ≤ old + 2 * nodes_in_buffers all.buffers) (comes : ComesTo words stored.files (opened all)) where
@@ -440,18 +440,6 @@ served_complete failed statuses.Refused start last told rest before after script
 served_complete failed statuses.StoreFault start last told rest before after script s e can i o = absurd s.played
 
 module _ (old new : StoreSeen) where
-  pub caused_of : (o : OpenOutcome) → ((word : List ℕ) → o ≡ missing word → Rose old.misses new.misses)
-      → ((word : List ℕ) → o ≡ too_long word → Rose old.longs new.longs)
-      → ((word : List ℕ) → o ≡ store_fault word → Rose old.faults new.faults) → IsCaused old new o
-  caused_of faulty_words m l f = tt
-  caused_of (missing word) m l f = m word refl
-  caused_of (too_long word) m l f = l word refl
-  caused_of (no_tree word c) m l f = tt
-  caused_of (store_fault word) m l f = f word refl
-  caused_of no_memory m l f = tt
-  caused_of (opened all) m l f = tt
-  caused_of (generated all) m l f = tt
-
   missed : (o : OpenOutcome) → IsCaused old new o → status_of o ≡ statuses.Missing → Rose old.misses new.misses
   missed faulty_words c e = cc
   missed (missing word) c e = c

@@ -1,4 +1,4 @@
--- Words, files, script and marks come to one run.
+-- Words, files, script and marks have one run.
 use Rattle.std.proofs.Common.{◌≡◌, ◌≢◌, ℕ, List, [], ◌∷◌, ◌++◌, length, refl, ap, sym}
 use Rattle.std.proofs.Common.{subst, ◌∙◌, Option, Some, arith, true}
 use Rattle.tx_outside.specs.Files.{Files}
@@ -21,7 +21,7 @@ use Rattle.tx_session.proofs.Turning.{same_seen}
 use Rattle.tx_session.proofs.Lining.{script_lines_once, long_unread}
 use Rattle.tx_session.proofs.Openings.{OneOutcome}
 
--- of two readings without want of memory
+-- of two readings that don't run out of memory
 pub one_reading : (text : List ℕ) (a b : Reading) → a ≢ unread → b ≢ unread → IsLineRead text a → IsLineRead text b
     → a ≡ b
 one_reading text unread b n m h k = absurd (n refl)
@@ -50,7 +50,7 @@ one_reading text (faulty f) (faulty e) n m h k = ap (λ f. faulty f) (one_cause 
 abbrev made_fresh : SeenSession → SeenSession
 made_fresh x = record x { fresh = true }
 
--- what the answer depends on
+-- what the reply depends on
 module _ (law : OneView) (v w : SeenWorld) (same : v.session ≡ w.session) where
   pub one_reply : (it : Command) (mark : LineMark) (s t : SeenWorld) (a b : List ℕ) → IsReply v it mark s a
       → IsReply w it mark t b → (s.session ≡ t.session) × (a ≡ b)
@@ -189,7 +189,7 @@ played_once law v w x y script marks r q statuses.ScriptLong statuses.InputFault
 played_once law v w x y script marks r q statuses.ScriptLong statuses.OutputFault a b e f g h k = absurd k
 played_once law v w x y script marks r q statuses.ScriptLong statuses.NoMemory a b e f g h k = absurd g
 
--- a run that ends with a final status had no fault of the store and no want of memory at opening
+-- a run that ends with a final status had no fault of the store and didn't run out of memory at opening
 pub decided : (o : OpenOutcome) (before after : Outside) (marks : List LineMark) (s : Status) (a : List ℕ) → IsFinal s
     → IsWhole o before after marks s a → IsDecided o
 decided (store_fault f) before after marks s a fin w = absurd (subst IsFinal w.ended fin)
@@ -201,7 +201,7 @@ decided (no_tree f c) before after marks s a fin w = tt
 decided (opened all) before after marks s a fin w = tt
 decided (generated all) before after marks s a fin w = tt
 
--- the script that the input told
+-- the script that the input holds
 pub told_script : (input : Option (List ℕ)) (script other : List ℕ) → input ≡ Some script → TellsScript input other
     → other ≡ script
 told_script input script other e tells = sym (subst (λ i. TellsScript i other) e tells)

@@ -1,4 +1,4 @@
--- How a script that was answered ends.
+-- How a script ends whose lines were executed.
 use Rattle.std.proofs.Common.{◌≡◌, ◌≢◌, ◌⊎◌, inl, inr, ◌<◌, ◌≤◌, ◌+◌, ℕ, Bool, true, false, List, [], ◌∷◌, ◌++◌, length}
 use Rattle.std.proofs.Common.{take, drop, eqb, ◌-◌, refl, ap, sym, subst, ◌∙◌, Option, Some, None, Ok, Contains, IfSome}
 use Rattle.std.proofs.Common.{append_assoc, length-append, arith}
@@ -125,7 +125,7 @@ module _ {A : Type 0} (p : A → Bool) where
   before_stop : (x : A) (xs : List A) → p x ≡ true → before_first p (x ∷ xs) ≡ []
   before_stop x xs e = grind (arith, common_steps)
 
--- lines that were answered are none of them `quit`
+-- lines that were executed are none of them `quit`
 pub none_quits : (seen last : World) (lines : List (List ℕ)) (marks : List LineMark) (text : List ℕ)
     → Answered seen lines marks last text → before_quit lines ≡ lines
 none_quits seen last [] marks text a = refl
@@ -150,7 +150,7 @@ whole_rest : (script : List ℕ) (rest : Option (List ℕ)) → IfSome rest (λ 
 whole_rest script None e = tt
 whole_rest script (Some bytes) e = inl e
 
--- the script has ended, and its last line was answered
+-- the script has ended, and its last line was executed
 pub whole_end : (start seen next : World) (told rest before between after : Option (List ℕ)) (script unended : List ℕ)
     (n : Next) → TellsScript told script → length script ≤ MOST_SCRIPT → IfSome rest (λ bytes. bytes ≡ [])
     → StandsAnswered start before script unended seen between → IsTurned (Ok n) seen unended next between after
@@ -190,7 +190,7 @@ whole_end start seen next told rest before between after script unended nexts.Qu
       written = t.2 ∙ s.written;
     })
 
--- the same, where the reply to it is written in part
+-- the script has ended, and the reply to its last line is written in part
 pub whole_cut : (start seen next : World) (told before between after : Option (List ℕ)) (script unended : List ℕ)
     → TellsScript told script → length script ≤ MOST_SCRIPT
     → StandsAnswered start before script unended seen between
@@ -218,7 +218,7 @@ whole_cut start seen next told before between after script unended tells short s
       part = subst (λ b. AppendsPart r.1 b after) s.written r.3;
     }
 
--- what the input told is what was taken and what it still tells
+-- what the input held is what was taken and what it still holds
 abbrev pub or_empty : Option (List ℕ) → List ℕ
 or_empty None = []
 or_empty (Some bytes) = bytes
@@ -336,7 +336,7 @@ kept_rest later more None left = tt
 kept_rest later more (Some bytes) left =
     (later ++ left.0, ap (λ x. later ++ x) left.1 ∙ sym (append_assoc later left.0 bytes))
 
--- within what was taken: `quit`, want of memory, or a fault of the output
+-- within what was taken: `quit`, out of memory, or a fault of the output
 pub stopped : (turn : Turn) (start seen : World) (told rest before after : Option (List ℕ)) (script bytes more : List ℕ)
     (kept : KeptLine) → turn ≢ turns.Go → TellsScript told script → script ≡ bytes ++ more
     → length bytes ≤ MOST_SCRIPT → ((between : List ℕ) × (more ≡ between ++ or_empty rest))

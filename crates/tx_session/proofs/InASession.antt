@@ -1,4 +1,4 @@
--- Every buffer of a session is well formed, at present and at each moment that is kept.
+-- Every buffer of a session is well formed, at present and at each moment of its history.
 use Rattle.std.proofs.Common.{◌≡◌, ◌⊎◌, inl, inr, ℕ, zero, suc, ◌<◌, Bool, true, false, List, [], ◌∷◌, ◌++◌}
 use Rattle.std.proofs.Common.{length, take, Option, Some, None, Result, Ok, Err, refl, sym, ap, subst, ◌∙◌}
 use Rattle.std.proofs.Common.{append_assoc, arith}
@@ -84,7 +84,7 @@ record IsFormed (s : State) : Type 0 where
 
 -- ---- buffers
 
--- the empty text stands where there is no buffer
+-- the empty text is used where there is no buffer
 nothing_formed : IsFormedTree (leaf [])
 nothing_formed = (no_bytes, record { text = omega arith; arity = omega arith; depth = omega arith; size = omega arith })
 
@@ -152,11 +152,11 @@ key_formed (Ok (KeyEdit mods to)) s next reply h f a =
 key_formed (Ok (MoveTo to)) s next reply h f a = cursor_formed s next to a.0 f
 key_formed (Err fault) s next reply h f a = subst IsFormed (sym a.1) f
 
-leave_formed : (made : Result Edit LeaveFault) (s next : State) (reply : List ℕ) → IsFormed s
-    → IsLeaveAnswer s made next reply → IsFormed next
-leave_formed (Ok edit) s next reply f a =
-    edit_formed edit s next reply (changed_in_turn edit.mods (tree_of s.buffers edit.buffer)) a.0 f refl a.1
-leave_formed (Err fault) s next reply f a = subst IsFormed (sym a.1) f
+leave_formed : (n : ℕ) (made : Result Edit LeaveFault) (s next : State) (reply : List ℕ) → IsFormed s
+    → IsLeaveAnswer n s made next reply → IsFormed next
+leave_formed n (Ok edit) s next reply f a =
+    edit_formed edit s next reply (changed_in_turn edit.mods (tree_of s.buffers edit.buffer)) a.0 f refl a.2
+leave_formed n (Err fault) s next reply f a = subst IsFormed (sym a.1) f
 
 choice_formed : (s next : State) (o : Option ℕ) (reply : List ℕ) → IsFormed s → IsChoice s o next reply → IsFormed next
 choice_formed s next (Some k) reply f a =
@@ -207,7 +207,7 @@ answer_formed text (Change m) width height s next reply h f a =
     edit_formed (selected_edit s m) s next reply (changed_in_turn (m ∷ []) (tree_of s.buffers s.selected))
     (sound_change text m h, tt) f refl a
 answer_formed text Undo width height s next reply h f a = undo_formed s next (codes "no undo") reply s.past f f.past a
-answer_formed text (UndoAt n) width height s next reply h f a = leave_formed (leaving n s) s next reply f a
+answer_formed text (UndoAt n) width height s next reply h f a = leave_formed n (leaving n s) s next reply f a
 answer_formed text Redo width height s next reply h f a =
     redo_formed s next (codes "no redo") reply s.future f f.future a
 answer_formed text (At name) width height s next reply h f a =

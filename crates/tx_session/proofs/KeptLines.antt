@@ -1,4 +1,4 @@
--- The beginning of a line that is kept.
+-- The beginning of a line that is stored.
 use Rattle.std.proofs.Common.{◌≡◌, ℕ, ◌+◌, ◌-◌, ◌<◌, ◌≤◌, Bool, true, nat_eq, eqb, if◌then◌else◌, List, [], ◌∷◌, ◌++◌}
 use Rattle.std.proofs.Common.{length, take, arith, Result, Ok, Err, IfErr}
 use Rattle.std.specs.List.{ends_with}

@@ -73,7 +73,7 @@ script_lines_once script a b (inl h) (inr k) = absurd (omega (arith, h.0, k.0))
 script_lines_once script a b (inr h) (inl k) = absurd (omega (arith, h.0, k.0))
 script_lines_once script a b (inr h) (inr k) = (lines_once (take MOST_SCRIPT script) a b h.1.0 k.1.0 h.1.1 k.1.1).0
 
--- no line that was answered is `quit`
+-- no line that was executed is `quit`
 answered_not_quit : (seen last : World) (lines : List (List ℕ)) (marks : List LineMark) (text one : List ℕ) (k : ℕ)
     → Answered seen lines marks last text → k < length lines → get_or lines k one ≡ one → is_quit one ≡ true → ⊥
 answered_not_quit seen last [] marks text one k a lt e q = omega (arith, lt)
@@ -83,7 +83,7 @@ answered_not_quit seen last (l ∷ lines) (m ∷ marks) text one zero a lt e q =
 answered_not_quit seen last (l ∷ lines) (m ∷ marks) text one (suc k) a lt e q =
     answered_not_quit a.0 last lines marks a.2 one k a.4 (omega (arith, lt)) e q
 
--- a script that is too long and whose lines were all answered can't be read
+-- a script that is too long and whose lines were all executed can't be read
 pub long_unread : (script : List ℕ) (seen last : World) (lines : List (List ℕ)) (marks : List LineMark) (text : List ℕ)
     → AreLinesOf script lines → MOST_SCRIPT < length script → Answered seen lines marks last text → CanBeRead script → ⊥
 long_unread script seen last lines marks text are long a (inl short) = omega (arith, long, short)

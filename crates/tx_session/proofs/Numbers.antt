@@ -1,4 +1,4 @@
--- Where memory sufficed, the numbers that `work` tells are determined.
+-- Where memory sufficed, the numbers that `work` prints are determined.
 use Rattle.std.proofs.Common.{◌≡◌, ◌≢◌, ℕ, true, List, [], ◌∷◌, map, refl, ap, sym, subst, ◌∙◌, Option, Some}
 use Rattle.tx_outside.specs.Files.{Files}
 use Rattle.tx_cmd.specs.declared.command.Command.{Command}
@@ -23,13 +23,13 @@ use Rattle.tx_session.proofs.Lining.{script_lines_once, long_unread}
 use Rattle.tx_session.proofs.Openings.{OneOutcome}
 use Rattle.tx_session.proofs.Turning.{same_session}
 
--- `work` has no answer but the number that is told
+-- `work` has no reply but the number that is printed
 not_work : (v w : SeenWorld) (it : Command) (reply : List ℕ) → it ≡ Work → IsDone v it w reply → ⊥
 not_work v w it reply e h =
     let none : IsAnswer v.session.width v.session.height v.session.state Work w.session.state reply =
     subst (λ c. IsAnswer v.session.width v.session.height v.session.state c w.session.state reply) e h.answer in none
 
--- what is kept behind a command is decided by what stood before it and by what is seen behind it
+-- what is cached after a command is decided by what was before it and by what is seen after it
 one_keep : (it : Command) (a b c d : WholeSession) → a ≡ b → c.seen ≡ d.seen
     → c.keep ≡ kept_after a.seen.state it c.seen.state a.keep → d.keep ≡ kept_after b.seen.state it d.seen.state b.keep
     → c ≡ d
@@ -86,7 +86,7 @@ module _ (law : OneView) (v w : World) (same : v.session ≡ w.session) where
       (h.1.keeps ∙ ap (λ z. z.keep) same ∙ sym k.1.keeps)
   unsaved_once (faulty f) s t a b h k = absurd h
 
--- a line has no reply of its own where it tells a number
+-- a line has no reply of its own where it prints a number
 told_or_plain : (v w : World) (n : ℕ) (reading : Reading) (s t : World) (a b : List ℕ) → IsReplyTo v reading plain s a
     → IsReplyTo w reading (told n) t b → ⊥
 told_or_plain v w n nothing s t a b h k = let bad = k.0 in cc

@@ -1,4 +1,4 @@
--- What a law of opening says: words and files come to one outcome.
+-- What a law of opening says: words and files have one outcome.
 use Rattle.std.specs.Prelude.{◌≡◌, ℕ, List, Some}
 use Rattle.tx_outside.specs.Files.{Files}
 use Rattle.tx_open.specs.Outcomes.{ComesTo, IsDecided, OpenOutcome}

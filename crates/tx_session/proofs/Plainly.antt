@@ -140,10 +140,10 @@ plain_leave_cause (leaves.Entangled j) = begun (leave_reply (leaves.Entangled j)
 plain_leave_cause (leaves.Refused cause) = plain_cause cause
 plain_leave_cause leaves.Memory = begun (leave_reply leaves.Memory) refl
 
-plain_leave : (state : State) (r : Result Edit LeaveFault) (next : State) (reply : List ℕ)
-    → IsLeaveAnswer state r next reply → IsPlainReply reply
-plain_leave state (Ok edit) next reply h = plain_edit state (edited edit state) next reply h.1
-plain_leave state (Err fault) next reply h = kept reply (leave_reply fault) h.2 (plain_leave_cause fault)
+plain_leave : (n : ℕ) (state : State) (r : Result Edit LeaveFault) (next : State) (reply : List ℕ)
+    → IsLeaveAnswer n state r next reply → IsPlainReply reply
+plain_leave n state (Ok edit) next reply h = plain_edit state (edited edit state) next reply h.2
+plain_leave n state (Err fault) next reply h = kept reply (leave_reply fault) h.2 (plain_leave_cause fault)
 
 plain_choice : (state : State) (r : Option ℕ) (next : State) (reply : List ℕ) → IsChoice state r next reply
     → IsPlainReply reply
@@ -190,7 +190,7 @@ spaced reply some =
           (omega (arith, some, store, ap spaces_in e)),
     )
 
--- a text, two more behind spaces, and a last byte
+-- a text, two more after spaces, and a last byte
 two_spaces : (a b c : List ℕ) (last : ℕ) (more : List ℕ) → 2 ≤ spaces_in (a ++ 32 ∷ b ++ 32 ∷ c ++ last ∷ [] ++ more)
 unfolding spaces_in
 two_spaces a b c last more = omega (
@@ -242,7 +242,7 @@ plain_answer width height state (Change m) next reply h =
     plain_edit state (edited (selected_edit state m) state) next reply h
 plain_answer width height state Undo next reply h =
     plain_step state (codes "no undo") (undone_state state) next reply (begun (line (codes "no undo")) refl) h
-plain_answer width height state (UndoAt n) next reply h = plain_leave state (leaving n state) next reply h
+plain_answer width height state (UndoAt n) next reply h = plain_leave n state (leaving n state) next reply h
 plain_answer width height state Redo next reply h =
     plain_step state (codes "no redo") (redone_state state) next reply (begun (line (codes "no redo")) refl) h
 plain_answer width height state (At name) next reply h =
@@ -276,7 +276,7 @@ pub plain_done : (before after : SeenWorld) (it : Command) (reply : List ℕ) �
 plain_done before after it reply h =
     plain_answer before.session.width before.session.height before.session.state it after.session.state reply h.answer
 
--- of the steps that are told
+-- of the steps that are printed
 pub plain_told : (n : ℕ) → IsPlainReply (work_reply n)
 plain_told n = begun (work_reply n) refl
 

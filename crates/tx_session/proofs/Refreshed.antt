@@ -1,4 +1,4 @@
--- What is kept of the view, and the steps, behind commands that ask the view and behind those that leave it.
+-- The view's cache, and the steps, after commands that ask the view and after those that leave it.
 use Rattle.std.proofs.Common.{◌≡◌, ℕ, ◌+◌, ◌≤◌, inl, inr, Bool, true, false, List, Result, refl, ap, sym, subst}
 use Rattle.std.proofs.Common.{◌∙◌, arith}
 use Rattle.std.specs.Prelude.{if◌then◌else◌}
@@ -72,7 +72,7 @@ asked_kept it before after e h =
     subst (λ b. after.keep ≡ (if b then refreshed state.buffers k else if keeps_buffers state it then k
     else option_map_or (carried_keep state.buffers after.seen.state.buffers k) (command_mods state it) k)) (sym e) h
 
--- a fresh view stays
+-- a fresh view is unchanged
 fresh_stays : (bs : List Buffer) (k : Keep) → k.fresh ≡ true → refreshed bs k ≡ k
 fresh_stays bs k f = ap (λ b. if b then k else record { fresh = true; stores = Fresh bs; work = Bound k.stores }) f
 
@@ -87,7 +87,7 @@ asked_keeps it before after lacking e m h =
 asked_keeps it before after unsaved e m h = absurd m
 asked_keeps it before after (told n) e m h = absurd m
 
--- the number that is told is the one that is kept
+-- the number that is printed is the one that is cached
 pub told_keeps : (it : Command) (before after : WholeSession) (n : ℕ) → asks_view it ≡ true
     → after.keep ≡ refreshed before.seen.state.buffers before.keep → n ≡ after.keep.work
     → Keeps before it (told n) after
@@ -127,7 +127,7 @@ prints_ask (PlaceOf r c) p = refl
 prints_ask (Attrs r) p = refl
 prints_ask it p = absurd p
 
--- ---- behind a refresh of the view of a session
+-- ---- after a refresh of the view of a session
 
 -- a key or a click makes its reply, or memory runs out
 pub arrival_made : (outcome : Result Move EditFault) (before after : State) (mark : LineMark) (reply : List ℕ)

@@ -11,7 +11,7 @@ use Rattle.tx_session.specs.Saying.{reply_mark, reply_text}
 use Rattle.tx_session.specs.Worlds.{WholeSession, LineMark}
 use Rattle.tx_session.specs.Writing.{IsSaid}
 
--- what a command answers: its reply, what is kept, and the steps
+-- what a command leaves: its reply, what is cached, and the steps
 abbrev pub IsReplied : Command → (before after : WholeSession) → (store later : StoreSeen) → (old new : ℕ)
     → Result Next WriteFault → (written behind : Option (List ℕ)) → Type 0
 IsReplied it before after store later old new result written behind =

@@ -24,7 +24,7 @@ use Rattle.tx_session.proofs.Determined.{one_run as one_text_run}
 use Rattle.tx_session.proofs.Openings.{OneOutcome}
 use Rattle.tx_session.proofs.Lining.{script_lines_once}
 
--- both tell these files
+-- both hold these files
 pub both_tell : (a b : Option Files) (all : Files) → a ≡ Some all → b ≡ Some all → HoldSameFiles a b
 both_tell a b all e f =
     subst (λ z. HoldSameFiles a z) (sym f) (subst (λ z. HoldSameFiles z (Some all)) (sym e) (λ name. refl))
@@ -32,7 +32,7 @@ both_tell a b all e f =
 moved : (a b c d : Option Files) → b ≡ a → d ≡ c → HoldSameFiles a c → HoldSameFiles b d
 moved a b c d e f h = subst (λ z. HoldSameFiles b z) (sym f) (subst (λ z. HoldSameFiles z c) (sym e) h)
 
--- the same file is put into both
+-- one file is put into both
 module _ (name bytes : List ℕ) where
   put_in : (a b c d : Files) → WithFile name bytes a b → WithFile name bytes c d
       → ((n : List ℕ) → file_of c n ≡ file_of a n) → (n : List ℕ) → file_of d n ≡ file_of b n

@@ -31,7 +31,7 @@ use Rattle.tx_open.specs.Outcomes.{OpenOutcome, opened, ComesTo, IsDecided, IsOp
 use Rattle.tx_open.proofs.Files.{tree_once}
 use Rattle.tx_session.proofs.Openings.{OneOutcome}
 
--- ---- what saving comes to
+-- ---- the result of saving
 
 pub saves_nothing : (form : Form) (t : WideTree) → has_text_in form t ≡ false → saving form t ≡ no_form
 saves_nothing form t e = ap (λ b. if b then fitting (line (form_text form t)) else no_form) e
@@ -101,7 +101,7 @@ module _ (name : List ℕ) (t : WideTree) (bytes : List ℕ) (before after : Sto
   kept_save given (Made text) says k = let same : Says (Made text) (save_reply (writes bytes)) =
       subst (λ r. Says r (save_reply (writes bytes))) (sym k.0) says in stored_save (Made text) same same k.1
 
--- a reply that was given, where the store kept the bytes
+-- a reply that was given, where the store stored the bytes
 pub keeps_given : (name bytes : List ℕ) (given : Reply) (before after : StoreSeen) → (given ≡ Wanting → ⊥)
     → (given ≡ Unsaved → ⊥) → StoresFile (Some (name, bytes)) before after
     → IsKeepReply name bytes given given before after

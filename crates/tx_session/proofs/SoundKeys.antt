@@ -28,7 +28,7 @@ IsSoundKey (Ok (KeyEdit mods to)) = AreSoundMods mods
 IsSoundKey (Ok (MoveTo to)) = Unit {0}
 IsSoundKey (Err fault) = Unit {0}
 
--- what holds of all answers holds of the answer
+-- what holds of all results holds of the result
 by_option : {X : Type 0} (f : X → Result Move EditFault) (d : Result Move EditFault) (o : Option X) → IsSoundKey d
     → ((x : X) → IsSoundKey (f x)) → IsSoundKey (option_map_or f o d)
 by_option f d None h k = h

@@ -44,7 +44,7 @@ line_ends bytes ended rest h =
       last = All-nil (λ b. b ≢ 10);
     }
 
--- one line more is answered
+-- one line more is executed
 pub answered_next : (seen : World) (lines : List (List ℕ)) (marks : List LineMark) (between last : World)
     (text reply one : List ℕ) (mark : LineMark)
     → Answered seen lines marks between text → IsLineReply between (command_line one) mark last reply
@@ -89,7 +89,7 @@ stands_on start before bytes rest b seen after other s =
       written = s.written;
     }
 
--- the next byte ends the line, which is answered
+-- the next byte ends the line, which is executed
 pub stands_next : (start : World) (before : Option (List ℕ)) (bytes rest : List ℕ) (seen next : World)
     (between after : Option (List ℕ))
     → ((mark : LineMark) × (reply : List ℕ) × IsLineReply seen (command_line rest) mark next reply
@@ -105,7 +105,7 @@ stands_next start before bytes rest seen next between after r s =
       written = append_known-then before between after s.replies r.1 s.written r.3;
     }
 
--- what a line was turned into, by the answer
+-- what became of a line, where the session goes on
 pub turned_go : (n : Next) (seen next : World) (bytes : List ℕ) (before after : Option (List ℕ)) → n ≡ nexts.Go
     → IsTurned (Ok n) seen bytes next before after
     → (mark : LineMark) × (reply : List ℕ) × IsLineReply seen (command_line bytes) mark next reply

@@ -1,4 +1,4 @@
--- What became of a line that was answered.
+-- What became of a line that was executed.
 use Rattle.std.proofs.Common.{◌≡◌, ◌≢◌, ◌⊎◌, inl, inr, ℕ, ◌<◌, ◌≤◌, ◌+◌, ◌==◌, Bool, true, false, List, [], ◌∷◌, length}
 use Rattle.std.proofs.Common.{refl, ap, sym, subst, ◌∙◌, Option, Result, Ok, Err, arith}
 use Rattle.std.specs.Io.KnownBytes.{append_known}
@@ -32,7 +32,7 @@ as_before seen = record { session = refl; store = refl; steps = omega arith }
 pub counted_on : (seen : World) (steps : ℕ) → seen.steps ≤ steps → IsAsBefore seen (record seen { steps = steps })
 counted_on seen steps more = record { session = refl; store = refl; steps = more }
 
--- a refusal, or want of memory in its place
+-- a refusal, or out of memory in its place
 pub refused_reply : (seen next : World) (text reply : List ℕ) → IsAsBefore seen next
     → (reply ≡ text) ⊎ (reply ≡ wanting_reply) → (mark : LineMark) × IsRefusalReply seen text mark next reply
 refused_reply seen next text reply same (inl e) = (plain, (same, e))

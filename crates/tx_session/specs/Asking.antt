@@ -1,4 +1,4 @@
--- What methods of a session answer. Only private clauses cite this.
+-- What methods of a session return. Only private clauses cite this.
 use Rattle.std.specs.Prelude.{◌≡◌, ◌≢◌, ◌&&◌, is_err, Bool, true, false, if◌then◌else◌, ℕ, List, Result, Ok, Err}
 use Rattle.std.specs.Prelude.{IfOk, IfErr}
 use Rattle.std.specs.Option.{option_map_or}
@@ -33,11 +33,11 @@ pub record IsKeptView (changed_not : Bool) (before after : SeenSession) : Type 0
   pub height : after.height ≡ before.height
   pub fresh : after.fresh ≡ (changed_not && before.fresh)
 
--- nothing changed, for want of memory
+-- nothing changed, since memory ran out
 abbrev pub IsWanting : SeenSession → SeenSession → List ℕ → Type 0
 IsWanting before after reply = (after ≡ before) × (reply ≡ wanting_reply)
 
--- an edit that comes to this was done or refused
+-- an edit with this outcome was done or refused
 abbrev pub IsChange : Result State ModFault → SeenSession → LineMark → SeenSession → List ℕ → Type 0
 IsChange outcome before plain after reply =
     IsEditAnswer before.state outcome after.state reply × IsKeptView (is_err outcome) before after
@@ -45,7 +45,7 @@ IsChange outcome before lacking after reply = IsWanting before after reply
 IsChange outcome before unsaved after reply = ⊥
 IsChange outcome before (told n) after reply = ⊥
 
--- so of a key
+-- a key with this outcome was done or refused
 abbrev pub IsKeyChange : Result Move EditFault → SeenSession → LineMark → SeenSession → List ℕ → Type 0
 IsKeyChange made before plain after reply =
     IsKeyAnswer before.state made after.state reply × IsKeptView (key_fails before.state made) before after
@@ -53,13 +53,13 @@ IsKeyChange made before lacking after reply = IsWanting before after reply
 IsKeyChange made before unsaved after reply = ⊥
 IsKeyChange made before (told n) after reply = ⊥
 
--- so of an earlier edit that is taken back
-abbrev pub IsLeaveChange : Result StateEdit LeaveFault → SeenSession → LineMark → SeenSession → List ℕ → Type 0
-IsLeaveChange made before plain after reply =
-    IsLeaveAnswer before.state made after.state reply × IsKeptView (leave_fails before.state made) before after
-IsLeaveChange made before lacking after reply = IsWanting before after reply
-IsLeaveChange made before unsaved after reply = ⊥
-IsLeaveChange made before (told n) after reply = ⊥
+-- the n-th last edit was taken back, or that was refused, with this outcome
+abbrev pub IsLeaveChange : ℕ → Result StateEdit LeaveFault → SeenSession → LineMark → SeenSession → List ℕ → Type 0
+IsLeaveChange n made before plain after reply =
+    IsLeaveAnswer n before.state made after.state reply × IsKeptView (leave_fails before.state made) before after
+IsLeaveChange n made before lacking after reply = IsWanting before after reply
+IsLeaveChange n made before unsaved after reply = ⊥
+IsLeaveChange n made before (told k) after reply = ⊥
 
 -- this is what a key makes, unless memory ran out
 abbrev pub Makes : Result Move EditFault → Result Move EditFault → Type 0
@@ -75,7 +75,7 @@ abbrev pub GoesIn : WideTree → Move → Type 0
 GoesIn t (GoTo to) = IsPlace t to.path to.offset
 GoesIn t (Edit mods to) = ⊥
 
--- What is kept behind an edit of a buffer: it goes with the modifications, unless they are refused.
+-- What is cached after an edit of a buffer: it is carried by the modifications, unless they are refused.
 abbrev pub IsEditKept : (refused : Bool) → ℕ × List Mod → WholeSession → LineMark → WholeSession → Type 0
 IsEditKept refused edit before plain after =
     after.keep ≡ (if refused then before.keep
@@ -84,7 +84,7 @@ IsEditKept refused edit before lacking after = after.keep ≡ before.keep
 IsEditKept refused edit before unsaved after = ⊥
 IsEditKept refused edit before (told n) after = ⊥
 
--- so behind a key
+-- what is cached after a key
 abbrev pub IsKeyKept : Result Move EditFault → WholeSession → LineMark → WholeSession → Type 0
 IsKeyKept made before plain after =
     after.keep ≡ (if key_fails before.seen.state made then before.keep
@@ -94,7 +94,7 @@ IsKeyKept made before lacking after = after.keep ≡ before.keep
 IsKeyKept made before unsaved after = ⊥
 IsKeyKept made before (told n) after = ⊥
 
--- the cursor went to the place behind a cell, or there is no such cell
+-- the cursor went to the place of a cell, or there is no such cell
 abbrev pub IsClicked : ℕ → WideView → ℕ → ℕ → State → LineMark → State → List ℕ → Type 0
 IsClicked width v r c before plain after reply =
     IsClickAnswer before (no_cell v width) (position_in v.units width r c) after reply
@@ -124,7 +124,7 @@ Prints (PlaceOf r c) = Unit {0}
 Prints (Attrs r) = Unit {0}
 Prints command = ⊥
 
--- the session goes on behind what was printed
+-- the session goes on after what was printed
 abbrev pub next_after : Result (Unit {0}) WriteFault → Result Next WriteFault
 next_after (Ok done) = Ok Go
 next_after (Err fault) = Err fault

@@ -32,7 +32,7 @@ astray_reply (places.NoPath n) = numbered_line (codes "no path-end ") n
 astray_reply (places.BadPlace n) = numbered_line (codes "no bad-place ") n
 astray_reply (places.CutsSymbol n) = numbered_line (codes "no cuts-symbol ") n
 
--- why a key does nothing, want of memory aside
+-- why a key does nothing, apart from running out of memory
 abbrev pub key_reply : EditFault → List ℕ
 key_reply NoText = line (codes "no text")
 key_reply AtStart = line (codes "no start")
@@ -40,7 +40,7 @@ key_reply AtEnd = line (codes "no end")
 key_reply NotInParagraph = line (codes "no paragraph")
 key_reply Memory = []
 
--- why an earlier edit isn't taken back, want of memory aside
+-- why an earlier edit isn't taken back, apart from running out of memory
 abbrev pub leave_reply : LeaveFault → List ℕ
 leave_reply leaves.Nothing = line (codes "no undo")
 leave_reply (leaves.Entangled j) = numbered_line (codes "no entangled ") j

@@ -1,5 +1,5 @@
--- Stores that hold the same files, marks without want of memory, replies that no mark says, and statuses with which
--- opening ends a run.
+-- Stores that hold the same files, marks without `lacking`, replies that no mark says, and statuses with which opening
+-- ends a run.
 use Rattle.std.specs.Prelude.{◌≡◌, ◌≢◌, ℕ, List, Option}
 use Rattle.std.specs.List.{AllByRecursion}
 use Rattle.tx_outside.specs.Files.{Files, file_of}
@@ -9,7 +9,7 @@ use Rattle.tx_session.specs.declared.status.Status.TheVariants.{Words, Missing, 
 use Rattle.tx_session.specs.Replies.{wanting_reply, unsaved_reply}
 use Rattle.tx_session.specs.Worlds.{LineMark, lacking}
 
--- both hold the same bytes under each name, where they tell it
+-- both hold the same bytes under each name, where both are known
 abbrev pub HoldSameFiles : Option Files → Option Files → Type 0
 HoldSameFiles files others =
     WhereKnown (λ all more. (name : List ℕ) → file_of more name ≡ file_of all name) files others

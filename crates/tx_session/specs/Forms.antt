@@ -28,7 +28,7 @@ abbrev pub form_text : Form → WideTree → List ℕ
 form_text Scheme t = scheme_text t
 form_text Tm t = tm_text t
 
--- What saving a tree comes to: the tree has no text in this form, or the file would have so many bytes, which are too
+-- The result of saving a tree: the tree has no text in this form, or the file would have so many bytes, which are too
 -- many, or it has these bytes.
 pub data Saving : Type 0 where
   no_form : Saving

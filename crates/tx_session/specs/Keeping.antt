@@ -1,4 +1,4 @@
--- The beginning of a line that is kept while the line is read. Only private clauses cite this.
+-- The beginning of a line that is stored while the line is read. Only private clauses cite this.
 use Rattle.std.specs.Prelude.{◌≡◌, ◌+◌, ℕ, true, nat_eq, List, [], ◌∷◌, ◌++◌}
 use Rattle.std.specs.Prelude.{length, take, Option, Result, Ok, Err, ◌≤◌, ◌≢◌}
 use Rattle.std.specs.List.{ends_with}
@@ -15,13 +15,13 @@ use Rattle.tx_session.specs.Replies.{IsLineReply}
 use Rattle.tx_session.specs.Worlds.{World, LineMark}
 use Rattle.tx_session.specs.Scripts.{HasEndedLines, Answered, command_line, is_quit}
 
--- what is kept of a line of these bytes: enough to answer it
+-- what is stored of a line of these bytes: enough to execute it
 pub record KeepsLine (line : KeptLine) (bytes : List ℕ) : Type 0 where
   pub front : line.front.items ≡ take (MOST_LINE + 1) bytes
   pub count : line.count ≡ length bytes
   pub returned : line.returned ≡ ends_with nat_eq bytes (13 ∷ [])
 
--- what became of a line that was kept: it was answered, or it is `quit`, or its reply is written in part
+-- what became of a line that was stored: it was executed, or it is `quit`, or its reply is written in part
 abbrev pub IsTurned : Result Next WriteFault → World → List ℕ → World → (before after : Option (List ℕ)) → Type 0
 IsTurned (Ok nexts.Go) seen bytes next before after =
     (mark : LineMark) × (reply : List ℕ) × IsLineReply seen (command_line bytes) mark next reply
@@ -31,7 +31,7 @@ IsTurned (Err fault) seen bytes next before after =
     (mark : LineMark) × (reply : List ℕ) × IsLineReply seen (command_line bytes) mark next reply
     × AppendsPart reply before after
 
--- the bytes have these lines, which were answered, and the replies written
+-- the bytes have these lines, which were executed, and the replies written
 pub record StandsAnswered (start : World) (before : Option (List ℕ)) (bytes rest : List ℕ) (seen : World)
     (after : Option (List ℕ)) : Type 0 where
   pub ended : List (List ℕ)
@@ -41,14 +41,14 @@ pub record StandsAnswered (start : World) (before : Option (List ℕ)) (bytes re
   pub answered : Answered start ended marks seen replies
   pub written : after ≡ append_known before replies
 
--- the same, and the line that has not ended is kept
+-- the bytes have such lines, and the line that has not ended is stored
 pub record StandsWith (start : World) (before : Option (List ℕ)) (bytes : List ℕ) (seen : World) (line : KeptLine)
     (after : Option (List ℕ)) : Type 0 where
   pub rest : List ℕ
   pub stands : StandsAnswered start before bytes rest seen after
   pub kept : KeepsLine line rest
 
--- the lines that ended in the bytes were answered, and the last reply, to the line behind them, is written in part
+-- the lines that ended in the bytes were executed, and the last reply, to the line after them, is written in part
 pub record IsCutAt (start : World) (before : Option (List ℕ)) (bytes : List ℕ) (next : World)
     (after : Option (List ℕ)) : Type 0 where
   pub rest : List ℕ

@@ -24,14 +24,14 @@ use Rattle.tx_session.specs.Effects.{asks_view, keeps_buffers}
 use Rattle.tx_session.specs.States.{selected_edit, key_edit, by_typing, by_backspace, by_enter}
 use Rattle.tx_session.specs.Worlds.{Keep, WholeSession, LineMark, plain, lacking, unsaved, told}
 
--- ---- what is kept
+-- ---- what is cached
 
--- behind a refresh, which does nothing where the view is fresh
+-- after a refresh, which does nothing where the view is fresh
 abbrev pub refreshed : List Buffer → Keep → Keep
 refreshed buffers k =
     if k.fresh then k else record { fresh = true; stores = Fresh buffers; work = Bound k.stores }
 
--- behind modifications of a buffer, which make the new buffers of the old ones
+-- after modifications of a buffer, which make the new buffers of the old ones
 abbrev pub carried_keep : List Buffer → List Buffer → Keep → ℕ × List Mod → Keep
 carried_keep old new k edit =
     record { fresh = false; stores = Carry edit.0 edit.1 old k.stores new; work = k.work }
@@ -67,27 +67,27 @@ command_mods state (UndoAt n) = leave_mods (leaving n state)
 command_mods state Redo = redone_mods state.future
 command_mods state command = None
 
--- what is kept behind a command that is done and leads to the next state
+-- what is cached after a command that is done and leads to the next state
 abbrev pub kept_after : State → Command → State → Keep → Keep
 kept_after state command next k =
     if asks_view command then refreshed state.buffers k
     else if keeps_buffers state command then k
     else option_map_or (carried_keep state.buffers next.buffers k) (command_mods state command) k
 
--- Memory ran out in a refresh: some of what is kept was brought up to date by then, and the rest is as before, or gone.
+-- Memory ran out in a refresh: some of the cache was brought up to date by then, and the rest is as before, or gone.
 pub record IsBrokenOff (buffers : List Buffer) (k next : Keep) : Type 0 where
   pub stale : next.fresh ≡ false
   pub stores : IsPartlyFresh k.stores (Fresh buffers) next.stores
   pub work : next.work ≡ k.work
 
--- Where memory runs out, all that is kept stays, but that a command which asks a view that isn't fresh may have
+-- Where memory runs out, the cache is unchanged, but that a command which asks a view that isn't fresh may have
 -- refreshed it, or begun to.
 abbrev pub IsKeptLacking : (asks : Bool) → List Buffer → Keep → Keep → Type 0
 IsKeptLacking true buffers k next =
     (k.fresh ≡ true → next ≡ k) × ((next ≡ refreshed buffers k) ⊎ IsBrokenOff buffers k next)
 IsKeptLacking false buffers k next = next ≡ k
 
--- what is kept behind a command with this mark; the number that is told is that of the last refresh
+-- what is cached after a command with this mark; the number that is printed is that of the last refresh
 abbrev pub Keeps : WholeSession → Command → LineMark → WholeSession → Type 0
 Keeps before command plain after =
     after.keep ≡ kept_after before.seen.state command after.seen.state before.keep
@@ -100,7 +100,7 @@ Keeps before command unsaved after = after.keep ≡ before.keep
 -- ---- steps
 
 -- An edit makes the nodes along the paths of its modifications anew, once for the change, once for the inverse and once
--- to carry what is kept, and the nodes of units that stand in no buffer.
+-- to carry the cache, and the nodes of units that are in no buffer.
 abbrev pub edit_cost : List Mod → Result State ModFault → ℕ
 edit_cost mods (Ok next) = 3 * cost_of mods + made next.buffers
 edit_cost mods (Err cause) = 2 * cost_of mods
@@ -141,7 +141,7 @@ abbrev pub TakesAsking : (asks : Bool) → WholeSession → Command → ℕ → 
 TakesAsking true before command old new = new ≡ old + refresh_cost before.keep
 TakesAsking false before command old new = new ≤ old + most_steps before.seen.state command
 
--- where memory ran out; nothing is said of a refresh that wanted it
+-- where memory ran out; nothing is said of a refresh that ran out of it
 abbrev pub TakesLacking : (asks : Bool) → WholeSession → Command → ℕ → ℕ → Type 0
 TakesLacking true before command old new = before.keep.fresh ≡ true → new ≡ old
 TakesLacking false before command old new = new ≤ old + most_steps before.seen.state command

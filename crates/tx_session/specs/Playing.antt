@@ -1,4 +1,4 @@
--- How a script was answered. Only private clauses cite this.
+-- How a script was executed. Only private clauses cite this.
 use Rattle.std.specs.Prelude.{◌≡◌, ◌≢◌, ◌++◌, ◌⊎◌, ℕ, List, Option}
 use Rattle.std.specs.Io.KnownBytes.{append_known}
 use Rattle.tx_outside.specs.Known.{AppendsPart}
@@ -34,7 +34,7 @@ abbrev pub IsEnd : Status → (start last : World) → (told rest before after :
 IsEnd OutputFault start last told rest before after = IsCutOff start last told before after
 IsEnd status start last told rest before after = HasPlayed start last told rest status before after
 
--- the same with the status's own line, which is written too, or in part
+-- the script was executed, and the status's own line is written too
 pub record IsClosed (start last : World) (told rest : Option (List ℕ)) (status : Status)
     (before after : Option (List ℕ)) : Type 0 where
   pub script : List ℕ

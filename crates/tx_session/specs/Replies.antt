@@ -1,4 +1,4 @@
--- Replies to commands and to lines, want of memory included.
+-- Replies to commands and to lines, also when out of memory.
 use Rattle.std.specs.Prelude.{◌≡◌, ◌≢◌, ◌<◌, ◌≤◌, ◌+◌, ◌&&◌, ◌||◌, not, length, ℕ}
 use Rattle.std.specs.Prelude.{Bool, Some, true, false, List, [], ◌++◌, codes, decimal}
 use Rattle.tx_cmd.specs.declared.command.Command.{Command}
@@ -41,7 +41,7 @@ takes_memory Cursor = false
 takes_memory Quit = false
 takes_memory _ = true
 
--- where want of memory can be the answer to a command
+-- where a command can run out of memory
 abbrev pub MayLack : SeenSession → Command → Type 0
 MayLack seen command = takes_memory command || (asks_view command && not seen.fresh) ≡ true
 
@@ -58,7 +58,7 @@ pub record IsDone (before : SeenWorld) (command : Command) (after : SeenWorld) (
   pub height : after.session.height ≡ before.session.height
   pub stored : StoresFile (saved_by before.session.state command) before.store after.store
 
--- the command is `work`, and tells the number; the view is fresh afterwards
+-- the command is `work`, and prints the number; the view is fresh afterwards
 pub record IsWorkTold (before : SeenWorld) (command : Command) (n : ℕ) (after : SeenWorld)
     (reply : List ℕ) : Type 0 where
   pub work : command ≡ Work
@@ -109,14 +109,14 @@ IsLineRead text unread = IsAsked text × TakesMemory (up_to_space text)
 IsLineRead text (command it) = IsAsked text × IsCommand text it
 IsLineRead text (faulty cause) = IsAsked text × (cause ≢ Memory) × IsCmdFault text cause
 
--- a refusal, and want of memory in its place
+-- a refusal, or out of memory in its place
 abbrev pub IsRefusalReply : World → (text : List ℕ) → LineMark → World → List ℕ → Type 0
 IsRefusalReply before text plain after reply = IsAsBefore before after × (reply ≡ text)
 IsRefusalReply before text lacking after reply = IsAsBefore before after × (reply ≡ wanting_reply)
 IsRefusalReply before text unsaved after reply = ⊥
 IsRefusalReply before text (told n) after reply = ⊥
 
--- the reply to a command that was read from a line, with what is then kept of the view and the steps, of which reading
+-- the reply to a command that was read from a line, with the view's cache and the steps after it, of which reading
 -- takes at most the nodes of the line's tree
 pub record IsCommandReply (before : World) (it : Command) (mark : LineMark) (after : World)
     (reply : List ℕ) : Type 0 where

@@ -38,7 +38,7 @@ seen_start all =
       fresh = false;
     }
 
--- the same with what it keeps of a view, which is nothing yet
+-- such a session with its view's cache, which is empty
 abbrev pub whole_start : Opened → WholeSession
 whole_start all =
     record { seen = seen_start all; keep = record { fresh = false; stores = Empty all.buffers; work = 0 } }
@@ -56,7 +56,7 @@ generating_cost all = nodes_in_buffers all.buffers + made all.buffers
 abbrev pub start_with : Opened → StoreSeen → ℕ → World
 start_with all store steps = record { session = whole_start all; store = store; steps = steps }
 
--- the script is this one, as far as the input tells it
+-- the script is this one, as far as the input is known
 abbrev pub TellsScript : Option (List ℕ) → List ℕ → Type 0
 TellsScript told script = IfSome told (λ bytes. bytes ≡ script)
 
@@ -77,7 +77,7 @@ pub record EndedByQuit (script rest : List ℕ) : Type 0 where
   pub lines : HasEndedLines upto ended quitting
   pub quits : is_quit quitting ≡ true
 
--- ---- how a session ends, over a script of which the input still tells a rest afterwards
+-- ---- how a session ends, over a script of which the input still holds a rest afterwards
 -- The text is the replies, from the first line's on, none left out.
 
 -- the script was read to its end, or to a line `quit`
@@ -89,7 +89,7 @@ pub record IsPlayedThrough (start : World) (script : List ℕ) (marks : List Lin
   pub answered : Answered start (before_quit lines) marks last text
   pub left : IfSome rest (λ bytes. (bytes ≡ []) ⊎ EndedByQuit script bytes)
 
--- the script is too long, and the lines that end within the limit were answered
+-- the script is too long, and the lines that end within the limit were executed
 pub record IsPlayedToLimit (start : World) (script : List ℕ) (marks : List LineMark) (rest : Option (List ℕ))
     (last : World) (text : List ℕ) : Type 0 where
   pub lines : List (List ℕ)
@@ -98,7 +98,7 @@ pub record IsPlayedToLimit (start : World) (script : List ℕ) (marks : List Lin
   pub answered : Answered start lines marks last text
   pub left : IfSome rest (λ bytes. (n : ℕ) × (MOST_SCRIPT < n) × (n ≤ length script) × (bytes ≡ drop n script))
 
--- the input failed, and the lines that had ended in the bytes that were taken were answered
+-- the input failed, and the lines that had ended in the bytes that were taken were executed
 pub record IsPlayedToFault (start : World) (script : List ℕ) (marks : List LineMark) (rest : Option (List ℕ))
     (last : World) (text : List ℕ) : Type 0 where
   pub taken : ℕ
@@ -110,7 +110,7 @@ pub record IsPlayedToFault (start : World) (script : List ℕ) (marks : List Lin
   pub lines : HasEndedLines (take taken script) ended unended
   pub answered : Answered start ended marks last text
 
--- memory didn't suffice to keep a byte of a line, and the lines before that line were answered
+-- memory didn't suffice to store a byte of a line, and the lines before that line were executed
 pub record IsPlayedToWant (start : World) (script : List ℕ) (marks : List LineMark) (rest : Option (List ℕ))
     (last : World) (text : List ℕ) : Type 0 where
   pub upto : List ℕ
@@ -134,7 +134,7 @@ IsPlayed start script marks rest InputFault last text = IsPlayedToFault start sc
 IsPlayed start script marks rest NoMemory last text = IsPlayedToWant start script marks rest last text
 IsPlayed start script marks rest _ last text = ⊥
 
--- a status's own line, behind the replies
+-- a status's own line, after the replies
 abbrev pub own_line : Status → List ℕ
 own_line InputFault = line (codes "input")
 own_line ScriptLong = line (codes "script-long")
@@ -143,7 +143,7 @@ own_line _ = []
 
 -- ---- a generated document
 
--- the lines that the session of a generated document answers
+-- the lines that the session of a generated document executes
 abbrev pub generated_lines : List (List ℕ)
 generated_lines =
     codes "page 0" ∷ codes "where 4294967295 0" ∷ codes "errors" ∷ codes "insert / 0 (tuple \"top\")" ∷ codes "page 0"
@@ -156,8 +156,8 @@ generated_script = flat_map line generated_lines
 abbrev pub no_files : StoreSeen
 no_files = record { files = Some []; faults = 0; misses = 0; longs = 0 }
 
--- The session of a generated document answers its script, over a store without files, which stays so, and without an
--- input that could fail. It ends with a status, and has written this text.
+-- The session of a generated document executes its script, over a store without files, which doesn't change, and
+-- without an input that could fail. It ends with a status, and has written this text.
 pub record IsPlayedAlone (all : Opened) (old new : ℕ) (marks : List LineMark) (status : Status) (text : List ℕ) : Type 0
   where
     pub steps : ℕ
@@ -198,7 +198,7 @@ pub record IsWholeOpened (all : Opened) (before after : Outside) (marks : List L
   pub counted : last.steps ≡ after.steps
   pub written : text ≡ replies ++ own_line status
 
--- a document was generated; its session leaves the store and what the input tells as they were
+-- a document was generated; its session leaves the store and the rest of the input as they were
 pub record IsWholeGenerated (all : Opened) (before after : Outside) (marks : List LineMark) (status : Status)
     (text : List ℕ) : Type 0 where
   pub replies : List ℕ
@@ -223,7 +223,7 @@ IsWhole unopened before after marks status text = IsWholeUnopened unopened befor
 
 -- ---- a run that the output cuts short
 
--- the reply to one of the script's lines, behind the replies to all lines before it
+-- the reply to one of the script's lines, after the replies to all lines before it
 pub record IsReplyBehind (start : World) (script : List ℕ) (next : World) (done reply : List ℕ) : Type 0 where
   pub lines : List (List ℕ)
   pub before : List (List ℕ)
@@ -237,7 +237,7 @@ pub record IsReplyBehind (start : World) (script : List ℕ) (next : World) (don
   pub answered : Answered start before marks seen done
   pub replied : IsLineReply seen (command_line one) mark next reply
 
--- the status's own line, behind all replies
+-- the status's own line, after all replies
 pub record IsOwnLine (input_failed : Type 0) (start : World) (script : List ℕ) (rest : Option (List ℕ)) (last : World)
     (done part : List ℕ) : Type 0 where
   pub status : Status
@@ -246,7 +246,7 @@ pub record IsOwnLine (input_failed : Type 0) (start : World) (script : List ℕ)
   pub own : part ≡ own_line status
   pub caused : status ≡ InputFault → input_failed
 
--- the same two in the session of a generated document
+-- such a reply in the session of a generated document
 pub record IsReplyAlone (all : Opened) (old new : ℕ) (done reply : List ℕ) : Type 0 where
   pub steps : ℕ
   pub next : World
@@ -261,7 +261,7 @@ pub record IsOwnLineAlone (all : Opened) (old new : ℕ) (done part : List ℕ) 
   pub played : IsPlayedAlone all old new marks status done
   pub own : part ≡ own_line status
 
--- files were opened, and this part is being written behind what is done
+-- files were opened, and this part is being written after what is done
 pub record IsCutOpened (all : Opened) (before after : Outside) (done part : List ℕ) : Type 0 where
   pub script : List ℕ
   pub first : StoreSeen
@@ -297,7 +297,7 @@ IsBeingWritten (opened all) before after done part = IsCutOpened all before afte
 IsBeingWritten (generated all) before after done part = IsCutGenerated all before after done part
 IsBeingWritten unopened before after done part = IsCutUnopened unopened before after done part
 
--- The words and the files come to an outcome, and a run of it ends with the status. After a fault of the output only a
+-- The words and the files have an outcome, and a run of it ends with the status. After a fault of the output only a
 -- part of what was being written is written, from its start on.
 pub record IsRunWritten (words : List (List ℕ)) (status : Status) (before after : Outside) : Type 0 where
   pub outcome : OpenOutcome

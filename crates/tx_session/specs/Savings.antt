@@ -1,4 +1,4 @@
--- What a line `save` of a session leaves behind it.
+-- What a line `save` of a session leaves.
 use Rattle.std.specs.Prelude.{◌≡◌, ◌⊎◌, ◌<◌, ℕ, List, ◌∷◌, ◌++◌, codes, length}
 use Rattle.tx_outside.specs.Files.{WithFile}
 use Rattle.tx_outside.specs.Known.{WhereKnown}
@@ -27,8 +27,8 @@ IsNotSaved before after reply =
     × ((reply ≡ line (codes "no form"))
     ⊎ ((n : ℕ) × (MOST_FILE < n) × (reply ≡ numbered_line (codes "no file-long ") n)))
 
--- One line of those that were answered, behind these lines and before the others: its mark and its reply, and what the
--- session and its store were before it and behind it.
+-- One line of those that were executed, after these lines and before the others: its mark and its reply, and what the
+-- session and its store were before it and after it.
 pub record StandsAmong (start : World) (before : List (List ℕ)) (one : List ℕ) (behind : List (List ℕ))
     (marks : List LineMark) (last : World) (text : List ℕ) : Type 0 where
   pub marks_before : List LineMark

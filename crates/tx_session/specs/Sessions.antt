@@ -31,7 +31,7 @@ whole_session_code =
 abbrev pub seen_of : Inside → SeenSession
 seen_of s = record { state = s.state; width = s.view.width; height = s.view.height; fresh = s.asked }
 
--- a view that was told of a change that stands ready
+-- a view that was given a change that is ready
 abbrev pub view_with : WholeView → Prepared → WholeView
 view_with v p =
     let buffers : List Buffer = with_tree v.buffers p.buffer p.tree in record v {
@@ -42,7 +42,7 @@ view_with v p =
       stores = Carry p.buffer p.mods v.buffers v.stores buffers;
     }
 
--- what is kept of a view
+-- the cache of a view
 abbrev pub keep_of : WholeView → Keep
 keep_of v = record { fresh = v.fresh; stores = v.stores; work = v.work }
 

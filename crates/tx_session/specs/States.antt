@@ -1,6 +1,6 @@
--- The answer to a command: what it makes of the state, and the reply.
+-- The result of a command: what it makes of the state, and the reply.
 use Rattle.std.specs.Prelude.{◌≡◌, ◌≢◌, ◌⊎◌, ℕ, List, [], ◌∷◌, codes, length}
-use Rattle.std.specs.Prelude.{Option, Some, None, Result, Ok, Err}
+use Rattle.std.specs.Prelude.{Option, Some, None, Result, Ok, Err, IfOk}
 use Rattle.tx_tree.specs.PathSpelling.{place_text}
 use Rattle.tx_tree.specs.WideTree.{WideTree}
 use Rattle.tx_tree.specs.declared.faults.PlaceFault.{PlaceFault}
@@ -13,7 +13,7 @@ use Rattle.tx_doc.specs.Forms.{form_of}
 use Rattle.tx_doc.specs.Buffers.{document_of, tree_of, number_of}
 use Rattle.tx_state.specs.States.{State}
 use Rattle.tx_state.specs.Edits.{edited, undone_state, redone_state, CursorGoes, IsAstray}
-use Rattle.tx_state.specs.Leaving.{leaving}
+use Rattle.tx_state.specs.Leaving.{leaving, tree_without}
 use Rattle.tx_state.specs.declared.edits.Edit.{Edit}
 use Rattle.tx_state.specs.declared.faults.LeaveFault.{LeaveFault}
 use Rattle.tx_state.specs.declared.faults.LeaveFault.TheVariants.{Memory as LeaveMemory}
@@ -80,12 +80,14 @@ IsKeyAnswer state (Ok (KeyEdit mods to)) next reply = IsEditAnswer state (edited
 IsKeyAnswer state (Ok (MoveTo to)) next reply = (next ≡ record state { cursor = to }) × (reply ≡ done_reply)
 IsKeyAnswer state (Err fault) next reply = (fault ≢ Memory) × (next ≡ state) × (reply ≡ key_reply fault)
 
--- an earlier edit was taken back by an edit, the parts of which are well formed, and which was done or refused; or why
--- there is no such edit
-abbrev pub IsLeaveAnswer : State → Result Edit LeaveFault → State → List ℕ → Type 0
-IsLeaveAnswer state (Ok edit) next reply =
-    AreSoundMods edit.mods × IsEditAnswer state (edited edit state) next reply
-IsLeaveAnswer state (Err fault) next reply = (fault ≢ LeaveMemory) × (next ≡ state) × (reply ≡ leave_reply fault)
+-- The n-th last edit was taken back by an edit whose parts are well formed, and which was done or refused; or why there
+-- is no such edit. Where it was done, the buffer's tree is the one that the later edits make without the n-th last.
+abbrev pub IsLeaveAnswer : ℕ → State → Result Edit LeaveFault → State → List ℕ → Type 0
+IsLeaveAnswer n state (Ok edit) next reply =
+    AreSoundMods edit.mods
+    × IfOk (edited edit state) (λ made. tree_without n state ≡ Some (tree_of made.buffers edit.buffer))
+    × IsEditAnswer state (edited edit state) next reply
+IsLeaveAnswer n state (Err fault) next reply = (fault ≢ LeaveMemory) × (next ≡ state) × (reply ≡ leave_reply fault)
 
 -- an edit was taken back or made again, or there was none
 abbrev pub IsStepAnswer : State → (none : List ℕ) → Option State → State → List ℕ → Type 0
@@ -106,7 +108,7 @@ IsGoAnswer state numbers next reply =
 abbrev pub whole_place : BasedPlace → Place
 whole_place p = record { path = whole_path p; offset = p.offset }
 
--- the cursor went to the place behind a cell, or there is no such cell
+-- the cursor went to the place of a cell, or there is no such cell
 abbrev pub IsClickAnswer : State → (none : List ℕ) → Option BasedPlace → State → List ℕ → Type 0
 IsClickAnswer state none (Some p) next reply = (next ≡ record state { cursor = whole_place p }) × (reply ≡ done_reply)
 IsClickAnswer state none None next reply = (next ≡ state) × (reply ≡ none)
@@ -153,7 +155,7 @@ abbrev pub IsAnswer : ℕ → ℕ → State → Command → State → List ℕ �
 IsAnswer width height state (Change m) next reply =
     IsEditAnswer state (edited (selected_edit state m) state) next reply
 IsAnswer width height state Undo next reply = IsStepAnswer state (codes "no undo") (undone_state state) next reply
-IsAnswer width height state (UndoAt n) next reply = IsLeaveAnswer state (leaving n state) next reply
+IsAnswer width height state (UndoAt n) next reply = IsLeaveAnswer n state (leaving n state) next reply
 IsAnswer width height state Redo next reply = IsStepAnswer state (codes "no redo") (redone_state state) next reply
 IsAnswer width height state (At name) next reply = IsChoice state (number_of state.buffers name) next reply
 IsAnswer width height state (Go numbers) next reply = IsGoAnswer state numbers next reply
@@ -165,7 +167,7 @@ IsAnswer width height state Cursor next reply =
 IsAnswer width height state Tree next reply = (next ≡ state) × (reply ≡ line (scheme_text (selected_tree state)))
 IsAnswer width height state (Save name) next reply =
     (next ≡ state) × (reply ≡ save_reply (saving (form_of name) (selected_tree state)))
--- its reply is that of a number that is told
+-- its reply is that of a number that is printed
 IsAnswer width height state Work next reply = ⊥
 IsAnswer width height state Quit next reply = (next ≡ state) × (reply ≡ [])
 IsAnswer width height state command next reply = IsViewAnswer width height state command next reply

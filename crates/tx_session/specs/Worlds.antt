@@ -61,7 +61,7 @@ pub data LineMark : Type 0 where
   unsaved : LineMark
   told : (n : ℕ) → LineMark
 
--- the mark without the number that is told
+-- the mark without the number that was printed
 abbrev pub untold : LineMark → LineMark
 untold plain = plain
 untold lacking = lacking
@@ -91,6 +91,6 @@ unsaved_in (plain ∷ marks) = unsaved_in marks
 unsaved_in (lacking ∷ marks) = unsaved_in marks
 unsaved_in (told n ∷ marks) = unsaved_in marks
 
--- a count rose by at least n, or stands at its last value
+-- a count rose by at least n, or is at its last value
 abbrev pub RoseBy : ℕ → ℕ → ℕ → Type 0
 RoseBy n before after = (n + before ≤ after) ⊎ (after ≡ 2 ^ 64 - 1)

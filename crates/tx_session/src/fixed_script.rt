@@ -1,9 +1,9 @@
-// A script that stands in the program.
+// A script that is part of the program.
 ghost use Rattle.std.specs.Prelude.{Some};
 
 use tx_outside::{Failed, Source};
 
-/// What the session of a generated document answers: pages before and behind a change and its undoing.
+/// The commands for the session of a generated document: pages before and after a change and its undoing.
 pub(crate) const GENERATED_SCRIPT: &[u8] =
     b"page 0\nwhere 4294967295 0\nerrors\ninsert / 0 (tuple \"top\")\npage 0\nundo\npage 0\npage 1\ncursor\nquit\n";
 

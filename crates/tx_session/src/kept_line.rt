@@ -9,7 +9,7 @@ use std::alloc::Global;
 use tx_base::Memory;
 use tx_cmd::MOST_LINE;
 
-/// What is kept of a line while it is read: its first bytes, as many as a command can need, how many it has, and
+/// What is stored of a line while it is read: its first bytes, as many as a command can need, how many it has, and
 /// whether the last one is a return.
 #[derive(Drop)]
 pub(crate) struct KeptLine {

@@ -1,9 +1,9 @@
 //! The session: the top call `run` of the program, over a store of files, an input and an output, and `Session`, which
-//! answers one command at a time.
+//! executes one command at a time.
 //!
-//! What opening comes to is `ComesTo` of `tx_open`, what a line's reply is `IsLineReply`
-//! (`specs/Replies.antt`), what the lines of a script are and how they are answered is in `specs/Scripts.antt`, and a
-//! whole run is `IsRun` (`specs/Runs.antt`), a relation between words, files, script, status and the bytes written.
+//! The outcome of opening is `ComesTo` of `tx_open`. A line's reply is `IsLineReply` (`specs/Replies.antt`). The lines
+//! of a script, and how they are executed, are in `specs/Scripts.antt`. A whole run is `IsRun` (`specs/Runs.antt`), a
+//! relation between words, files, script, status and the bytes written.
 #![tactic(auto)]
 
 mod fault_lines;

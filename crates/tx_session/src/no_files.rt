@@ -1,4 +1,5 @@
 // A store without files.
+ghost use Rattle.std.specs.Prelude.{◌≡◌, Err};
 ghost use Rattle.tx_session.specs.Runs.{no_files};
 
 use tx_outside::{LoadFault, SaveFault, Store};
@@ -9,6 +10,8 @@ pub(crate) struct NoFiles;
 
 impl Store for NoFiles {
     ghost seen = { λ _. no_files };
+
+    ghost load_leaves = { λ _ result old new. (result ≡ Err LoadFault.Memory) × (new ≡ old) };
 
     fn load(&mut self, _name: &[u8], _out: &mut Vec<u8>) -> Result<(), LoadFault> {
         Err(LoadFault::Memory)

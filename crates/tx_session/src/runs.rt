@@ -19,6 +19,7 @@ ghost use Rattle.tx_session.specs.Differences.{EndsAtOpening, HoldSameFiles, Suf
 ghost use Rattle.tx_session.specs.Playing.{IsUnopenedLine, IsServed, IsServedAlone};
 ghost use Rattle.tx_session.specs.Scripts.{Answered};
 ghost use Rattle.tx_session.specs.Worlds.{LineMark, WholeSession, World, RoseBy, unsaved_in, untold, world};
+ghost use Rattle.tx_session.specs.EarlyEnds.{HasOpenedNothing};
 ghost use Rattle.tx_session.specs.declared.status.Status.{Status};
 
 use crate::fixed_script::{FixedScript, GENERATED_SCRIPT};
@@ -36,7 +37,7 @@ use tx_outside::{Sink, Source, Store, WriteFault, write_all};
 use tx_state::MOST_BUFFERS;
 use tx_view_form::one_view;
 
-// Writes the text, and answers the status unless the output failed.
+// Writes the text, and returns the status unless the output failed.
 fn finish<O: Sink>(out: &mut O, text: &[u8], status: Status) -> Status
     requires { status ≢ Status.OutputFault }
     ensures done { result ≢ Status.OutputFault
@@ -95,7 +96,7 @@ fn session_of<L: Ledger>(
     Session::start(alloc, all.buffers.into_vec(), all.width, all.height, steps)
 }
 
-// Answers the script over the session, and writes the status's own line.
+// Runs the script over the session, and writes the status's own line.
 fn serve<S: Store, I: Source, O: Sink, L: Ledger>(
     alloc: Global,
     session: &mut Session,
@@ -120,7 +121,7 @@ fn serve<S: Store, I: Source, O: Sink, L: Ledger>(
     }
 }
 
-// The session of what was opened answers its script, unless it can't be kept.
+// Runs the script of the session of what was opened, unless the session can't be made.
 fn run_opened<S: Store, I: Source, O: Sink, L: Ledger>(
     alloc: Global,
     all: Opened,
@@ -156,7 +157,7 @@ fn run_opened<S: Store, I: Source, O: Sink, L: Ledger>(
     match session_of(alloc, all, steps) {
         Ok(mut session) => {
             let status = serve(alloc, &mut session, store, input, out, steps);
-            // The program ends behind a run, and the system takes all memory at once.
+            // The program ends after a run, and the system takes all memory at once.
             mem::forget(session);
             status
         }
@@ -164,7 +165,7 @@ fn run_opened<S: Store, I: Source, O: Sink, L: Ledger>(
     }
 }
 
-// The session of a generated document answers the fixed script, without the run's store and input.
+// Runs the fixed script of the session of a generated document, without the run's store and input.
 fn run_alone<O: Sink, L: Ledger>(
     alloc: Global,
     all: Opened,
@@ -195,15 +196,16 @@ fn run_alone<O: Sink, L: Ledger>(
 
 /// Runs the program on the words of its command line, the program's name first: `tmx [--width N] [--height N] FILE
 /// [STYLE]...`. It opens the files that they name, in their order, or writes one line that says why the first that
-/// can't be opened wasn't, and answers the lines of the script that comes from the input, each as soon as it has ended.
+/// can't be opened wasn't. Then it executes the lines of the script that comes from the input, each as soon as it has
+/// ended.
 ///
-/// The script ends at a line `quit` or with the input, and has at most 2^24 bytes. After a fault of the input the
-/// lines that had ended in what was taken are answered, of a script that is too long those that end within the limit,
-/// and for want of memory those before the line that couldn't be kept; then one line says why. After a fault of the
-/// output, what was written is a part of that, from its start on.
+/// The script ends at a line `quit` or with the input, and has at most 2^24 bytes. After a fault of the input the lines
+/// that had ended in what was taken are executed. Of a script that is too long these are the lines that end within the
+/// limit. When out of memory they are the lines before the one that couldn't be stored. Then one line says why. After a
+/// fault of the output, what was written is a part of that, from its start on.
 ///
-/// What the session keeps of its view and the steps go on from line to line, as `Session::step` says, from nothing
-/// kept: so `work` tells the steps of the last refresh.
+/// The view's cache and the steps go on from line to line, as `Session::step` says, from an empty cache on. `work`
+/// prints the steps of the last refresh.
 ///
 /// Where FILE is `gen:number:count`, the document that is generated from the number is opened, and the script is a
 /// fixed one (`generated_lines` of `specs/Runs.antt`): neither the store nor the input is called.
@@ -224,6 +226,8 @@ pub fn run<S: Store, I: Source, O: Sink, L: Ledger>(
     ensures words_only { AreFaulty (map string_bytes words.now)
         → (result ≡ Status.Words) ⊎ (result ≡ Status.NoMemory) ⊎ (result ≡ Status.OutputFault) }
     ensures missing_counted { result ≡ Status.Missing → Rose (S.seen store.old).misses (S.seen store.new).misses }
+    ensures loads { EndsAtOpening result → HasOpenedNothing S.load_leaves S.seen (map string_bytes words.now) result
+        store.old store.new (O.seen out.old).written (O.seen out.new).written }
     ensures refused { result ≡ Status.Refused
         → IsFileRefused (map string_bytes words.now) (S.seen store.old) (S.seen store.new) }
     ensures store_fault_counted { result ≡ Status.StoreFault
@@ -264,9 +268,9 @@ pub fn run<S: Store, I: Source, O: Sink, L: Ledger>(
     }
 }
 
-/// A law: words, files, a script and marks, which say at which lines memory ran out or the store failed and which
-/// numbers `work` told, come to one status and one text, where no device failed otherwise and memory sufficed
-/// otherwise. Where the store never failed, they leave the same files.
+/// A law: words, files, a script and marks have one status and one text, where no device failed otherwise and memory
+/// sufficed otherwise. The marks say at which lines memory ran out or the store failed and which numbers `work`
+/// printed. Where the store never failed, they leave the same files.
 pub fn one_run()
     ensures { (words : List (List ℕ)) (all : Files) (script : List ℕ) (marks : List LineMark) (o p : OpenOutcome)
         (v w x y : Outside) (s t : Status) (a b : List ℕ)
@@ -280,8 +284,8 @@ pub fn one_run()
     one_outcome();
 }
 
-/// A law: where memory sufficed at each line, the numbers that `work` told are determined too. Of two runs of the same
-/// words, files and script whose marks differ in those numbers alone, the marks are the same.
+/// A law: where memory sufficed at each line, the numbers that `work` printed are determined too. Of two runs of the
+/// same words, files and script whose marks differ in those numbers alone, the marks are the same.
 pub fn numbers_determined()
     ensures { (words : List (List ℕ)) (all : Files) (script : List ℕ) (marks others : List LineMark) (o p : OpenOutcome)
         (v w x y : Outside) (s t : Status) (a b : List ℕ)
@@ -295,8 +299,8 @@ pub fn numbers_determined()
     one_outcome();
 }
 
-/// A law: the store's count of faults rises by at least the number of lines that are marked so, or stands at its last
-/// value: over lines that are answered, and over a whole run.
+/// A law: the store's count of faults rises by at least the number of lines that are marked so, or is at its last
+/// value: over lines that are executed, and over a whole run.
 pub fn failures_counted()
     ensures lines { (before last : World) (lines : List (List ℕ)) (marks : List LineMark) (text : List ℕ)
         → Answered before lines marks last text → RoseBy (unsaved_in marks) before.store.faults last.store.faults }

@@ -89,7 +89,7 @@ pub(crate) fn save<S: Store>(alloc: Global, tree: &Tree, name: &[u8], store: &mu
     }
 }
 
-// Stores the bytes, and answers this reply unless the store fails or memory ran out.
+// Stores the bytes, and returns this reply unless the store fails or memory ran out.
 #[tactic(auto, using(crate::proofs::Saved::keeps_given, std::proofs::lemmas::Grind::common_steps))]
 fn keep<S: Store>(name: &[u8], bytes: &[u8], reply: Reply, store: &mut S) -> Reply
     requires { reply ≢ Reply.Unsaved }
@@ -112,10 +112,10 @@ pub fn saved_spells_alone()
         → SpellsAloneIn form bytes t }
 {}
 
-/// A law: a file that was saved within the limits opens again. `read`: wherever it stands among the files that are
-/// opened, it is read as the tree that was saved, and as no other. `alone`: words that ask for it alone come to the
-/// modern form of that tree under the file's name, unless the store fails or memory runs out. That is the tree itself
-/// unless it is an old document with calls (`tx_doc::modern_law`), which only an edit makes of what was opened.
+/// A law: a file that was saved within the limits opens again. `read`: wherever it is among the files that are opened,
+/// it is read as the tree that was saved, and as no other. `alone`: words that ask for it alone open the modern form of
+/// that tree under the file's name, unless the store fails or memory runs out. That is the tree itself unless it is an
+/// old document with calls (`tx_doc::modern_law`), which only an edit makes of what was opened.
 pub fn saved_opens_again()
     ensures read { (told : Files) (word bytes : List ℕ) (t : WideTree) → IsWellFormed t → IsWithinLimits t
         → saving (form_of word) t ≡ writes bytes → file_of told word ≡ Some bytes
@@ -133,7 +133,7 @@ pub fn saved_opens_again()
 }
 
 /// A law: what the lines `save` of a session leave, whatever its lines are. `among`: each of the lines that were
-/// answered has its place among them. `saved`: in a session of files that were opened, a line `save` at which neither
+/// executed has its place among them. `saved`: in a session of files that were opened, a line `save` at which neither
 /// memory nor the store failed leaves a file that spells the selected buffer's present tree and no other, or the store
 /// as it was, with the reason.
 pub fn saved_in_a_session()

@@ -1,4 +1,4 @@
-// The lines of a script, read and answered one after the other.
+// The lines of a script, read and executed in order.
 ghost use Rattle.std.specs.Prelude.{◌≡◌, ◌≢◌, ◌≤◌, ◌<◌, ◌+◌, ◌∷◌, ◌++◌, ◌⊎◌, ℕ, List, [], Option};
 ghost use Rattle.std.specs.Prelude.{Bool, length, decimal, IfOk, OnOk, OnErr, IfErr, IfSome, Ok};
 ghost use Rattle.tx_outside.specs.Counts.{Rose};
@@ -34,7 +34,7 @@ fn refuse<O: Sink>(alloc: Global, out: &mut O, fault: CmdFault) -> Result<Next, 
     say(out, unread(alloc, fault).text())
 }
 
-// Answers a line that has ended.
+// Executes a line that has ended.
 fn answer_line<S: Store, O: Sink, L: Ledger>(
     alloc: Global,
     session: &mut Session,
@@ -143,7 +143,7 @@ fn take_piece<S: Store, O: Sink, L: Ledger>(
     Turn::Go
 }
 
-// Answers the script's last line, which ends with the script.
+// Executes the script's last line, which ends with the script.
 fn end_script<S: Store, O: Sink, L: Ledger>(
     alloc: Global,
     session: &mut Session,
@@ -169,8 +169,8 @@ fn end_script<S: Store, O: Sink, L: Ledger>(
     }
 }
 
-/// Reads the script from its source, piece by piece, and answers each line as soon as it has ended. The status says how
-/// the script ended; its own line isn't written.
+/// Reads the script from its source, piece by piece, and executes each line as soon as it has ended. The status says
+/// how the script ended; its own line isn't written.
 pub(crate) fn play<S: Store, I: Source, O: Sink, L: Ledger>(
     alloc: Global,
     session: &mut Session,

@@ -98,7 +98,7 @@ fn selected_edit(alloc: Global, state: &EditorState, m: &Mod) -> Result<Edit, Me
     })
 }
 
-// Tells the view of a change that stands ready.
+// Gives the view a change that is ready.
 fn tell<L: Ledger>(
     alloc: Global,
     view: &mut View,
@@ -117,7 +117,7 @@ fn tell<L: Ledger>(
     view.edited(alloc, prepared.buffer, mods, &prepared.tree, steps)
 }
 
-// The session goes on behind what was printed.
+// The session goes on after what was printed.
 fn going(printed: Result<(), WriteFault>) -> Result<Next, WriteFault>
     ensures { result ≡ next_after printed }
 {
@@ -143,7 +143,7 @@ fn arrive(state: &mut EditorState, made: Result<Move, EditFault>) -> Reply
     }
 }
 
-// Puts the cursor at the place behind a cell, unless there is no such cell.
+// Puts the cursor at the place of a cell, unless there is no such cell.
 fn go_to_cell(alloc: Global, state: &mut EditorState, view: &View, r: u32, c: u32) -> Reply
     requires { IsView state.old.buffers view.now.width view.now.height view.now.shown }
     ensures { IsClicked view.now.width view.now.shown r c state.old (reply_mark result) state.new (reply_text result) }
@@ -178,7 +178,7 @@ fn go_left(alloc: Global, state: &mut EditorState, view: &View) -> Reply
     }
 }
 
-// Puts the cursor at the stop behind it, unless there is none.
+// Puts the cursor at the next stop, unless there is none.
 fn go_right(alloc: Global, state: &mut EditorState, view: &View) -> Reply
     requires { IsView state.old.buffers view.now.width view.now.height view.now.shown }
     ensures { IsArrival (to_right (stops_of view.now.shown.units) state.old.cursor) state.old (reply_mark result)
@@ -198,7 +198,7 @@ fn go_right(alloc: Global, state: &mut EditorState, view: &View) -> Reply
 impl Session {
     /// A session over these buffers, the document first, on pages of this width, 20 to 500 cells, and this height, 5 to
     /// 500 lines. There are 1 to 64 buffers, no two of one name. The steps rise by at most the nodes that are made for
-    /// units. The one error is want of memory.
+    /// units. The one error is `Memory`.
     pub fn start<L: Ledger>(
         alloc: Global,
         buffers: Vec<Buffer>,
@@ -343,7 +343,7 @@ impl Session {
         self.keyed(alloc, made, steps)
     }
 
-    // Takes back what stands before the cursor.
+    // Takes back what is before the cursor.
     fn backspace<L: Ledger>(&mut self, alloc: Global, steps: &mut Steps<L>) -> Reply
         ensures replied { (store : StoreSeen) → IsReply (record { session = self.old.seen; store = store })
             Command.Backspace (reply_mark result) (record { session = self.new.seen; store = store })
@@ -449,7 +449,7 @@ impl Session {
         }
     }
 
-    // Puts the cursor at the place behind a cell.
+    // Puts the cursor at the place of a cell.
     fn click<L: Ledger>(&mut self, alloc: Global, r: u32, c: u32, steps: &mut Steps<L>) -> Reply
         ensures replied { (store : StoreSeen) → IsReply (record { session = self.old.seen; store = store })
             (Command.Click r c) (reply_mark result) (record { session = self.new.seen; store = store })
@@ -480,7 +480,7 @@ impl Session {
         reply
     }
 
-    // Puts the cursor at the stop behind it.
+    // Puts the cursor at the next stop.
     fn right<L: Ledger>(&mut self, alloc: Global, steps: &mut Steps<L>) -> Reply
         ensures replied { (store : StoreSeen) → IsReply (record { session = self.old.seen; store = store })
             Command.Right (reply_mark result) (record { session = self.new.seen; store = store }) (reply_text result) }
@@ -617,16 +617,16 @@ impl Session {
         }
     }
 
-    /// Does a command: changes the state as it says, and writes its reply. Where memory runs out the reply is
-    /// `no memory`, and nothing has changed; where the store fails in saving a file the reply is `no store`, and
-    /// nothing is known of that file.
+    /// Does a command: changes the state as it says, and writes its reply. Where memory runs out the reply is `no
+    /// memory`, and nothing has changed; where the store fails in saving a file the reply is `no store`, and nothing is
+    /// known of that file.
     ///
     /// After a fault of the output a part of the reply is written, and the state is the one that the command leads to.
-    /// `quit` writes nothing, and is the one command that is answered with `Quit`. `cursor` and `at` take no memory,
+    /// `quit` writes nothing, and is the one command for which `Quit` is returned. `cursor` and `at` take no memory,
     /// nor do `show`, `page`, `errors`, `where`, `attrs` and `work` where the view was asked since a buffer last
     /// changed.
     ///
-    /// What is kept of the view goes with each edit. Where the view is asked, the steps rise by what a refresh takes.
+    /// The view's cache is carried with each edit. Where the view is asked, the steps rise by what a refresh takes.
     pub fn step<S: Store, O: Sink, L: Ledger>(
         &mut self,
         alloc: Global,
@@ -655,7 +655,7 @@ impl Session {
         ensures fresh { self.new.seen.fresh ≡ true → self.new.keep.fresh ≡ true }
         ensures holds { Holds self.new.seen.state.buffers self.new.keep.stores }
 
-        // What stays, and what never falls.
+        // What doesn't change, and what never falls.
         ensures store_untouched { saved_by self.old.seen.state command.now ≡ None → store.new ≡ store.old }
         ensures counted { asks_view command.now ≡ false
             → steps.new ≤ steps.old + most_steps self.old.seen.state command.now }

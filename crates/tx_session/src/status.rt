@@ -19,7 +19,7 @@ pub enum Status {
     InputFault,
     /// The output failed.
     OutputFault,
-    /// Memory ran out at opening, or a line of the script couldn't be kept.
+    /// Memory ran out at opening, or a line of the script couldn't be stored.
     NoMemory,
     /// The script is too long.
     ScriptLong,

@@ -7,7 +7,7 @@ use tx_base::Steps;
 use tx_samples::{Row, first_untrue};
 use tx_session::Status;
 
-// A run, how many calls of its input behind the one that fails fail alike, the status, what is written, and a file with
+// A run, how many calls of its input after the one that fails fail alike, the status, what is written, and a file with
 // what it then holds.
 pub(crate) struct EndsRow(
     pub(crate) Setup,
@@ -536,7 +536,7 @@ impl EndsRow {
             && ended.file.as_slice() == self.4.1.as_bytes()
     }
 
-    // Whether the run ends as is told where the input fails so many calls later.
+    // Whether the run ends as the row says where the input fails so many calls later.
     fn ends<L: Ledger>(&self, alloc: Global, later: u64, steps: &mut Steps<L>) -> Option<bool> {
         let input_failing = match self.0.input_failing {
             Some(call) => Some(call.saturating_add(later)),

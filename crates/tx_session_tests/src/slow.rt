@@ -222,7 +222,7 @@ const CUTS: &[EndsRow] = &[
 // How often an input is read that gives a byte a call, where the reply to this first line can't be written.
 struct ReadsRow(&'static str, usize);
 
-// No byte behind the line has been asked for.
+// No byte after the line has been asked for.
 const READS: &[ReadsRow] = &[ReadsRow("tree\ntree\n", 5)];
 
 impl Row for ReadsRow {

@@ -38,7 +38,7 @@ use Rattle.tx_state.proofs.Moments.{kept_edit, edits_of_take, lead_of_take}
 
 -- ---- one entry
 
--- the tree of another buffer stays
+-- the tree of another buffer is unchanged
 tree_kept : (bs : List Buffer) (k j : ℕ) (u : WideTree) → k < length bs → (j ≡ k → ⊥)
     → tree_of (with_tree bs k u) j ≡ tree_of bs j
 tree_kept bs k j u lt other =

@@ -59,7 +59,7 @@ put_back bs k u lt =
     ∙ set_again bs k (record { name = b.name; tree = u }) b
     ∙ set_to_same bs k b found.1
 
--- the tree of another buffer stays
+-- the tree of another buffer is unchanged
 get_other : (bs : List Buffer) (k : ℕ) (b : Buffer) → slice_get (set bs (suc k) b) 0 ≡ slice_get bs 0
 get_other [] k b = refl
 get_other (a ∷ bs) k b = refl

@@ -21,7 +21,7 @@ edit_before buffer entry t = if entry.buffer == buffer then inverses_of entry.mo
 abbrev pub AppliesIn : ℕ → Entry → WideTree → Type 0
 AppliesIn buffer entry t = entry.buffer ≡ buffer → IsOk (changed_in_turn entry.mods t)
 
--- the same of entries, one after the other
+-- the tree of the buffer after going back by the entries in order
 abbrev pub tree_back : ℕ → List Entry → WideTree → WideTree
 tree_back buffer [] t = t
 tree_back buffer (entry ∷ entries) t = tree_back buffer entries (tree_before buffer entry t)

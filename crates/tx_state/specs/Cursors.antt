@@ -12,7 +12,7 @@ abbrev mutual
   first_leaf (leaf text) = Some []
   first_leaf (node label ts) = first_leaf_from 0 ts
 
-  -- the same among trees, of which the first one is child k
+  -- the path to the first leaf among trees, of which the first one is child k
   pub first_leaf_from : ℕ → Forest → Option (List ℕ)
   first_leaf_from k nil = None
   first_leaf_from k (cons t ts) = option_map_or (λ path. Some (k ∷ path)) (first_leaf t) (first_leaf_from (k + 1) ts)

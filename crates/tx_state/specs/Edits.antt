@@ -31,7 +31,7 @@ GivesPlace edit state =
     → IfSome edit.cursor (λ at. IsPlace (document_of (with_tree state.buffers edit.buffer u)) at.path at.offset)
 
 -- The state with the tree u in this buffer and this cursor, where modifications led there. The former moment can be
--- taken back, of as many as are kept, and what was taken back before can't be made again.
+-- taken back, within the limit of the history, and what was taken back before can't be made again.
 abbrev pub edited_to : ℕ → List Mod → WideTree → Place → State → State
 edited_to buffer mods u cursor state =
     record {
@@ -50,11 +50,11 @@ with_outcome edit state (Err cause) = Err cause
 abbrev pub edited : Edit → State → Result State ModFault
 edited edit state = with_outcome edit state (changed_in_turn edit.mods (tree_of state.buffers edit.buffer))
 
--- the same edit, seen from its other side
+-- the edit seen from its other side
 abbrev pub turned : State → KeptEdit → KeptEdit
 turned state kept = record { moment = present state; buffer = kept.buffer; mods = kept.mods }
 
--- the moment beside a kept edit is the present one
+-- the state at the moment of an edit of the history
 abbrev pub at_moment : State → KeptEdit → (past future : List KeptEdit) → State
 at_moment state kept past future =
     record {

@@ -38,7 +38,7 @@ pub record EntryLeads (buffers : List Buffer) (entry : Entry) : Type 0 where
   pub applies : (u : WideTree) × (changed_in_turn entry.mods (tree_of buffers entry.buffer) ≡ Ok u)
   pub cursor : IsPlace (document_of (led_to buffers entry)) entry.cursor.path entry.cursor.offset
 
--- the same of all entries, one after the other
+-- all entries lead, in order, each from the buffers after the one before
 abbrev pub EntriesLead : List Buffer → List Entry → Type 0
 EntriesLead buffers [] = Unit {0}
 EntriesLead buffers (entry ∷ entries) = EntryLeads buffers entry × EntriesLead (led_to buffers entry) entries

@@ -46,7 +46,7 @@ abbrev pub first_tree : (later edits : List KeptEdit) → Option WideTree
 first_tree later [] = None
 first_tree later (kept ∷ others) = tree_left (left_before kept later)
 
--- the same of the buffer of the n-th last edit
+-- the tree that the later edits make without the n-th last edit
 abbrev pub tree_without : ℕ → State → Option WideTree
 tree_without zero state = None
 tree_without (suc n) state = first_tree (take n state.past) (drop n state.past)

@@ -58,7 +58,7 @@ pub record IsReadyRedo (state : State) (p : Prepared) : Type 0 where
 abbrev pub cost_both_ways : List Mod → ℕ
 cost_both_ways mods = 2 * cost_of mods
 
--- the same of the first of some edits, if there is one
+-- the steps that are allowed for the first of some edits, if there is one
 abbrev pub first_cost : List KeptEdit → ℕ
 first_cost [] = 0
 first_cost (kept ∷ others) = cost_both_ways kept.mods

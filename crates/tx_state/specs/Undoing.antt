@@ -30,12 +30,12 @@ pub record IsRestored (n : ℕ) (s v : State) : Type 0 where
   pub cursor : v.cursor ≡ s.cursor
   pub past : length s.past ≤ MOST_UNDO → v.past ≡ take (MOST_UNDO - n) s.past
 
--- as many undos as edits, if they are no more than are kept, restore the state
+-- as many undos as edits, if they are no more than the history holds, restore the state
 abbrev pub Restores : List Edit → State → State → Type 0
 Restores es s u = length es ≤ MOST_UNDO → IsEditedBy es s u
     → (v : State) × (undone_times (length es) u ≡ Some v) × IsRestored (length es) s v
 
--- There are as many undos as there were before and edits were made, of as many as are kept, and then no more.
+-- There are as many undos as there were before and edits were made, within the limit of the history, and then no more.
 abbrev pub RunsOut : List Edit → State → State → Type 0
 RunsOut es s u =
     length s.past ≤ MOST_UNDO → IsEditedBy es s u

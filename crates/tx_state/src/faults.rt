@@ -1,4 +1,4 @@
-// Why a state stays as it is.
+// Why a state isn't changed.
 ghost use Rattle.std.specs.Prelude.{◌≡◌};
 ghost use Rattle.tx_state.specs.declared.faults.GoFault.TheVariants.{Memory as GoMemory};
 ghost use Rattle.tx_state.specs.declared.faults.UndoFault.TheVariants.{Memory as UndoMemory};
@@ -53,7 +53,7 @@ impl From<Memory> for LeaveFault {
     }
 }
 
-/// Why the cursor stays where it is.
+/// Why the cursor isn't moved.
 #[derive(Clone, Copy, Debug, PartialEq, Eq, Error)]
 pub enum GoFault {
     /// There is no such place.

@@ -169,7 +169,7 @@ impl EditorState {
     }
 
     /// Makes an edit ready: its modifications are applied in order, and the first cause why one can't be refuses the
-    /// whole. A cursor that the edit gives is a place of the document afterwards. The state stays as it is. It takes at
+    /// whole. A cursor that the edit gives is a place of the document afterwards. The state is unchanged. It takes at
     /// most twice as many steps as all paths have numbers, and six more for each modification.
     pub fn prepare_edit<L: Ledger>(
         &self,
@@ -229,7 +229,7 @@ impl EditorState {
     }
 
     /// Makes ready that the last edit is taken back, by the inverses of its modifications, from the last to the first.
-    /// `Nothing` comes exactly where there is none of the last 1,000 edits left to take back. The state stays as it is.
+    /// `Nothing` comes exactly where there is none of the last 1,000 edits left to take back. The state is unchanged.
     /// As many steps are allowed as for the edit.
     pub fn prepare_undo<L: Ledger>(
         &self,
@@ -276,7 +276,7 @@ impl EditorState {
     }
 
     /// Makes ready that the edit is made again that was taken back last, by its modifications. `Nothing` comes exactly
-    /// where there is none. The state stays as it is. As many steps are allowed as for the edit.
+    /// where there is none. The state is unchanged. As many steps are allowed as for the edit.
     pub fn prepare_redo<L: Ledger>(
         &self,
         alloc: Global,
@@ -325,7 +325,7 @@ impl EditorState {
     /// `prepare_edit`, and the buffer's tree is then the one that the later edits, as they are without that edit, make
     /// of the tree before it. `Nothing` comes exactly where there is no such edit, `Entangled` where the first later
     /// edit that fails has a modification that doesn't commute with what is left of that edit, and `Refused` where it
-    /// has one that passes a limit without that edit. The state stays as it is. It takes at most 1,609 steps for each
+    /// has one that passes a limit without that edit. The state is unchanged. It takes at most 1,609 steps for each
     /// modification of the last n edits.
     pub fn prepare_leave<L: Ledger>(
         &self,

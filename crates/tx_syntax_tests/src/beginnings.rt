@@ -57,7 +57,7 @@ const DOCUMENT: &[u8] = b"<TeXmacs|2.1>\n\n<style|generic>\n\n\
       <item>one\n\n    <item>two\n  </itemize>\n</body>\n\n\
       <\\initial>\n  <\\collection>\n    <associate|page-medium|paper>\n  </collection>\n</initial>\n";
 
-// Whole are the empty document, those that end round the lines of the two short tags, behind the body, and behind the
+// Whole are the empty document, those that end round the lines of the two short tags, after the body, and after the
 // last tag.
 const WHOLE: &[usize] = &[0, 13, 14, 15, 30, 31, 32, 166, 167, 168, 255];
 

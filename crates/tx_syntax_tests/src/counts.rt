@@ -1,4 +1,4 @@
-// Want of memory in words, and a count that is made and raised.
+// Out of memory in words, and a count that is made and raised.
 ghost use Rattle.std.specs.Prelude.{◌≡◌};
 
 use std::alloc::AllocError;

@@ -1,4 +1,4 @@
-// The places of faults, against a slow search for bytes that go on.
+// The places of faults, against a slow search for bytes that continue a beginning.
 ghost use Rattle.std.specs.Prelude.{◌≡◌};
 
 use std::alloc::Global;
@@ -50,7 +50,7 @@ fn append_string(letters: &[u8], number: usize, out: &mut Vec<u8>) -> Option<()>
     Some(())
 }
 
-// Beginnings of up to so many of some letters. What is tried behind them is up to so many of other letters, and then
+// Beginnings of up to so many of some letters. What is tried after them is up to so many of other letters, and then
 // nothing, or the end of a long tag whose label is once or twice one letter.
 #[derive(Clone, Copy)]
 struct Search<'a> {
@@ -102,7 +102,7 @@ struct Beginning {
     front: usize,
 }
 
-// The string with one letter more. What goes on no longer with fewer letters doesn't with more.
+// The string with one letter more. What can't be continued with fewer letters can't with more.
 fn longer<L: Ledger>(
     alloc: Global,
     search: &Search,
@@ -119,7 +119,7 @@ fn longer<L: Ledger>(
     Some(Beginning { bytes, front })
 }
 
-// Whether this is the answer to a string of such length whose longest front has this length.
+// Whether this is the right result for a string of such length whose longest front has this length.
 fn is_right(fault: Option<ReadFault>, len: usize, front: usize) -> bool {
     match fault {
         None => front == len,
@@ -134,7 +134,7 @@ fn is_right(fault: Option<ReadFault>, len: usize, front: usize) -> bool {
     }
 }
 
-// How many strings are trees, can be continued, and can't; and the first one with another answer.
+// How many strings are trees, can be continued, and can't; and the first one with another result.
 #[derive(Drop)]
 struct Tally {
     trees: u32,
@@ -164,7 +164,7 @@ impl Tally {
     }
 }
 
-// Judges the answers to all strings of up to so many letters.
+// Judges the results for all strings of up to so many letters.
 fn judged<L: Ledger>(alloc: Global, search: &Search, blank: Blank) -> Option<Tally>
     requires name { blank.name ≡ L.name }
     requires parts { blank.parts ≡ L.parts }

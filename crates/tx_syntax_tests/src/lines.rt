@@ -79,7 +79,7 @@ fn cells_beside(pieces: &[Piece]) -> u64 {
     cells
 }
 
-/// Whether the lines follow the rule, told line by line from the whole list of pieces.
+/// Whether the lines follow the rule, found line by line from the whole list of pieces.
 fn are_first_fit(pieces: &[Piece], first: u32, later: u32, lines: &[Cut]) -> bool {
     let mut end = 0;
     for (i, line) in lines.iter().enumerate() {

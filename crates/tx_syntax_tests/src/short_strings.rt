@@ -159,7 +159,7 @@ fn places_in_short_strings(rt: HostRuntime) -> Result<(), Fail> {
     Ok(())
 }
 
-// How many of the faults are of each kind: unclosed, stray, no escape, no label, no text, more behind a tree.
+// How many of the faults are of each kind: unclosed, stray, no escape, no label, no text, more after a tree.
 fn numbers(alloc: Global, strings: &[Vec<u8>]) -> [u32; 6] {
     let mut counts = [0u32; 6];
     for string in strings {

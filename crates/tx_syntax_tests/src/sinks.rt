@@ -13,7 +13,7 @@ fn read_two<I: Source>(source: &mut I, into: &mut [u8; 2]) -> Result<usize, Fail
     source.read(into)
 }
 
-// Whether the source gives these answers, one after the other. What it gives is put into `got`.
+// Whether the source returns these results, one after the other. What it gives is put into `got`.
 fn gives<I: Source>(
     source: &mut I,
     wanted: &[Result<usize, Failed>],
@@ -32,7 +32,7 @@ fn gives<I: Source>(
     Ok(true)
 }
 
-/// The calls that fail, and the answers to five calls on five bytes.
+/// The calls that fail, and the results of five calls on five bytes.
 type SourceRow = (&'static [u64], [Result<usize, Failed>; 5]);
 
 const SOURCES: &[SourceRow] = &[
@@ -65,7 +65,7 @@ fn source_gives_each_byte_once(rt: HostRuntime) -> Result<(), Fail> {
     Ok(())
 }
 
-/// The room of a sink and the calls that fail, the answer to five bytes, and what is then written.
+/// The room of a sink and the calls that fail, the result of writing five bytes, and what is then written.
 type SinkRow = (usize, &'static [u64], Result<(), WriteFault>, &'static [u8]);
 
 const SINKS: &[SinkRow] = &[

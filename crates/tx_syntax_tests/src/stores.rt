@@ -20,7 +20,7 @@ fn is_wanted(answer: &Result<Vec<u8>, LoadFault>, wanted: &Result<&[u8], LoadFau
     }
 }
 
-/// A name and bytes, the answer to saving these under it, and the answer to loading it then.
+/// A name and bytes, the result of saving these under it, and the result of loading it then.
 type Row = (
     &'static [u8],
     &'static [u8],
@@ -76,7 +76,7 @@ fn store_gives_what_was_saved(rt: HostRuntime) -> Result<(), Fail> {
     Ok(())
 }
 
-// The answer to loading a file of so many bytes, as their number.
+// The result of loading a file of so many bytes, as their number.
 fn loaded_length(alloc: Global, length: usize) -> Result<Result<usize, LoadFault>, Memory> {
     let mut files = Vec::new(alloc);
     let bytes = vec![in alloc; 7u8; length]?;

@@ -13,7 +13,7 @@ use tx_tree::{
 // The letter that long rows repeat.
 const LETTER: u8 = b'n';
 
-// What stands before so many letters, what behind them, and why the whole is no text.
+// What is before so many letters, what is after them, and why the whole is no text.
 type Long<'a, F> = (&'a [u8], usize, &'a [u8], Option<F>);
 
 const TEXTS: &[Long<'static, TextFault>] = &[
@@ -151,7 +151,7 @@ fn nodes_have_their_limits(rt: HostRuntime) -> Result<(), Fail> {
     Ok(())
 }
 
-// Bytes one by one, and whether each can stand next in a text.
+// Bytes one by one, and whether each can be next in a text.
 const GROWING: &[(u8, bool)] = &[
     (b'a', true),
     (b'>', false),

@@ -1,4 +1,4 @@
--- What stands behind the standard input and output, and how often they have failed.
+-- The reader and the writer under the standard input and output, and how often they have failed.
 use Rattle.std.specs.Prelude.{ℕ, None}
 use Rattle.tx_outside.specs.Outside.{SinkSeen, SourceSeen}
 use Rattle.tx_system.specs.declared.standard.StandardInput.{StandardInput}
@@ -12,7 +12,7 @@ reader_of input = input.reader
 abbrev pub input_faults : {R : Type 0} → StandardInput R → ℕ
 input_faults input = input.faults
 
--- what is seen of the input, which tells no bytes
+-- what is seen of the input, which reports no bytes
 abbrev pub seen_input : {R : Type 0} → StandardInput R → SourceSeen
 seen_input input = record { left = None; faults = input_faults input }
 
@@ -24,6 +24,6 @@ writer_of output = output.writer
 abbrev pub output_faults : {W : Type 0} → StandardOutput W → ℕ
 output_faults output = output.faults
 
--- what is seen of the output, which tells no bytes
+-- what is seen of the output, which reports no bytes
 abbrev pub seen_output : {W : Type 0} → StandardOutput W → SinkSeen
 seen_output output = record { written = None; faults = output_faults output }

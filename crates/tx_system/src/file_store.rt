@@ -4,7 +4,7 @@ ghost use Rattle.tx_outside.specs.Counts.{Rose};
 ghost use Rattle.tx_outside.specs.Files.{IsAbsent, IsTooLong, NamesDiffer, OthersKept, WithFile, file_of};
 ghost use Rattle.tx_outside.specs.Known.{WhereKnown};
 ghost use Rattle.tx_outside.specs.Outside.{StoreGoesOn};
-ghost use Rattle.tx_system.specs.Counts.{faults_of, longs_of, misses_of, seen_files};
+ghost use Rattle.tx_system.specs.Counts.{LoadLeaves, faults_of, longs_of, misses_of, seen_files};
 ghost use Rattle.tx_system.specs.Bytes.{AreAllOf, AreGivenTo};
 
 use crate::counts::raised;
@@ -17,7 +17,7 @@ use std::rt::Files;
 use std::{fs, str};
 use tx_outside::{LoadFault, MOST_FILE, SaveFault, Store};
 
-/// The files of the system. It tells no contents, and counts what went wrong.
+/// The files of the system. It reports no contents, and counts what went wrong.
 #[derive(Drop)]
 pub struct FileStore<'a, R> {
     alloc: Global,
@@ -75,16 +75,19 @@ impl<'a, R: Files> FileStore<'a, R> {
 impl<R: Files> Store for FileStore<'_, R> {
     ghost seen = { λ store. seen_files store };
 
+    ghost load_leaves = { λ name result old new. LoadLeaves name result old new };
+
     /// Reads the file of that name to its end, at most `MOST_FILE` bytes.
     fn load(&mut self, name: &[u8], out: &mut Vec<u8>) -> Result<(), LoadFault>
         requires { out.old.items ≡ [] }
         ensures read { OnOk result (AreAllOf R.File.remaining out.new.items) }
 
-        // What the trait says, of files whose contents aren't told.
+        // What the trait says, of files whose contents aren't known.
         ensures loaded { OnOk result (IfSome (seen_files self.old).files
             (λ all. file_of all name.now ≡ Some out.new.items)) }
         ensures within_limit { OnOk result (length out.new.items ≤ MOST_FILE) }
         ensures fault_empties { OnErr result (out.new.items ≡ []) }
+        ensures leaves { LoadLeaves name.now result self.old self.new }
         ensures missing_rose { IsErrOf result LoadFault.Missing → Rose (misses_of self.old) (misses_of self.new) }
         ensures missing_absent { IsErrOf result LoadFault.Missing
             → IfSome (seen_files self.old).files (IsAbsent name.now) }
@@ -112,7 +115,7 @@ impl<R: Files> Store for FileStore<'_, R> {
     fn save(&mut self, name: &[u8], bytes: &[u8]) -> Result<(), SaveFault>
         ensures written { OnOk result (AreGivenTo R.File.contents bytes.now) }
 
-        // What the trait says, of files whose contents aren't told.
+        // What the trait says, of files whose contents aren't known.
         ensures saved { OnOk result
             (WhereKnown (WithFile name.now bytes.now) (seen_files self.old).files (seen_files self.new).files) }
         ensures failed_rose { IsErrOf result SaveFault.Failed → Rose (faults_of self.old) (faults_of self.new) }

@@ -56,7 +56,7 @@ fn linked<R: Files>(alloc: Global, rt: &R, path: &str) -> Result<String, SaveFau
     }
 }
 
-// The path up to its last slash, which stays, or the folder of the moment where it has none.
+// The path up to its last slash, which is included, or the current folder where it has none.
 fn folder_of(alloc: Global, path: &str) -> Result<String, AllocError> {
     let front = match path.rsplit_once('/') {
         Some((front, _)) => front,

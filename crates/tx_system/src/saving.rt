@@ -26,7 +26,7 @@ pub(crate) fn save_bytes<R: Files>(
     }
 }
 
-// The folder is opened before anything is written, so that the last step alone is left behind the renaming.
+// The folder is opened before anything is written, so that the last step alone is left after the renaming.
 fn replaced<R: Files>(rt: &R, names: &mut SaveNames, bytes: &[u8]) -> io::Result<()>
     ensures written { OnOk result (AreGivenTo R.File.contents bytes.now) }
 {
@@ -110,7 +110,7 @@ pub fn write_to_disk<F: Write + OpenFile>(file: &mut F, bytes: &[u8]) -> io::Res
     file.sync_all()
 }
 
-// Takes the new file away. Where that fails too, it stays beside.
+// Takes the new file away. Where that fails too, it is left beside the target.
 fn take_away<R: Files>(rt: &R, beside: &SpareName) {
     if let Ok(path) = beside.path() {
         let _ = fs::remove_file(rt, path);

@@ -20,7 +20,7 @@ impl SpareName {
         Ok(SpareName { bytes })
     }
 
-    /// The name with the next number, or with `0000` behind the last one. It takes no memory.
+    /// The name with the next number, or with `0000` after the last one. It takes no memory.
     pub(crate) fn advance(&mut self) {
         for digit in self.bytes.iter_mut().rev().take(4) {
             if *digit < b'9' {

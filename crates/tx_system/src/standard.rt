@@ -9,7 +9,7 @@ use crate::counts::raised;
 use std::io::{self, Read, Write};
 use tx_outside::{Failed, Sink, Source};
 
-/// The standard input. It tells no bytes, and counts its failures.
+/// The standard input. It reports no bytes, and counts its failures.
 #[derive(Drop)]
 pub struct StandardInput<R: Read + Drop> {
     reader: R,
@@ -29,7 +29,7 @@ impl<R: Read + Drop> StandardInput<R> {
 impl<R: Read + Drop> Source for StandardInput<R> {
     ghost seen = { λ input. seen_input input };
 
-    /// What the reader gives, no more and no less. It answers 0 only at the reader's end, and fails only where the
+    /// What the reader gives, no more and no less. It returns 0 only at the reader's end, and fails only where the
     /// reader did.
     fn read(&mut self, into: &mut [u8]) -> Result<usize, Failed>
         requires { 0 < length into.old }
@@ -54,7 +54,7 @@ impl<R: Read + Drop> Source for StandardInput<R> {
     }
 }
 
-/// The standard output. It tells no bytes, flushes what it is given at once, and counts its failures.
+/// The standard output. It reports no bytes, flushes what it is given at once, and counts its failures.
 #[derive(Drop)]
 pub struct StandardOutput<W: Write + Drop> {
     writer: W,
@@ -87,8 +87,8 @@ impl<W: Write + Drop> StandardOutput<W> {
 impl<W: Write + Drop> Sink for StandardOutput<W> {
     ghost seen = { λ output. seen_output output };
 
-    /// Puts the first bytes of the piece into the writer and flushes it, and answers how many: at least one. Where
-    /// the flushing fails, the bytes may have been put in.
+    /// Puts the first bytes of the piece into the writer and flushes it, and returns how many: at least one. Where the
+    /// flushing fails, the bytes may have been put in.
     fn write(&mut self, piece: &[u8]) -> Result<usize, Failed>
         ensures some { IfOk result (λ n. 0 < n) }
         ensures within { IfOk result (λ n. n ≤ length piece.now) }

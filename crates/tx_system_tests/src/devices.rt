@@ -46,7 +46,7 @@ impl Write for HoldingWriter {
     }
 }
 
-// What a write of five bytes answers, and how many bytes were given on.
+// What a write of five bytes returns, and how many bytes were given on.
 fn written(alloc: Global, failing: Failing) -> (Result<usize, Failed>, usize) {
     let mut writer = HoldingWriter {
         failing,

@@ -259,7 +259,7 @@ impl<'a> Files for FakeFiles<'a> {
     }
 }
 
-// What a call that no test makes answers.
+// What a call that no test makes returns.
 fn unsupported() -> io::Error {
     io::Error::from(ErrorKind::Unsupported)
 }

@@ -25,7 +25,7 @@ const SAVING: &[FileCall] = &[
 
 const NEVER: usize = 1_000;
 
-// The disk after a save of `fresh` at which the call of that number failed, and what the save answered.
+// The disk after a save of `fresh` at which the call of that number failed, and what the save returned.
 fn saved(alloc: Global, failing: usize) -> io::Result<(Disk, Result<(), SaveFault>)> {
     let disk = RefCell::new(Disk::new(alloc, failing, ErrorKind::Other)?);
     let files = FakeFiles { disk: &disk };
@@ -40,7 +40,7 @@ fn fails_whole(alloc: Global, failing: usize) -> io::Result<bool> {
     Ok(answer == Err(SaveFault::Failed) && is_whole && !disk.is_new_there)
 }
 
-// The first call of the first `count` that isn't answered so.
+// The first call of the first `count` at which a save doesn't fail so.
 fn first_not_whole(alloc: Global, count: usize) -> io::Result<Option<usize>> {
     for failing in 0..count {
         if !fails_whole(alloc, failing)? {
@@ -74,7 +74,7 @@ fn a_folder_that_is_not_stored_is_a_failure(rt: HostRuntime) -> Result<(), Fail>
     Ok(())
 }
 
-// What a load answers where the call of that number fails with that kind, and the bytes.
+// What a load returns where the call of that number fails with that kind, and the bytes.
 fn loaded(
     alloc: Global,
     failing: usize,

@@ -13,7 +13,7 @@ use tx_origin::Value;
 /// The cells of a table, and the side of each.
 #[derive(Drop)]
 pub struct Grid {
-    /// What stands in the cells, row by row; a row may have fewer than another.
+    /// The values of the cells, row by row; a row may have fewer than another.
     pub rows: CellRows,
     /// A side for each given cell.
     pub sides: SideRows,

@@ -18,7 +18,7 @@ pub struct Plan {
     pub right: WidthRows,
 }
 
-// The free cells before what stands at this side of so many.
+// The free cells before the contents of a cell at this side, of so many.
 fn left_pad(side: Side, free: u32) -> u32
     ensures value { result ≡ left_pad side free }
     ensures within { result ≤ free }

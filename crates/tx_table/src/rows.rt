@@ -5,7 +5,7 @@ use crate::settings::Side;
 use std::marker::Model;
 use tx_origin::Value;
 
-/// What stands in the cells of a row. Contracts see the list.
+/// The values of the cells of a row. Contracts see the list.
 #[derive(Drop)]
 pub struct CellRow {
     all: Vec<Value>,

@@ -9,7 +9,7 @@ use tx_base::Memory;
 use tx_origin::Value;
 use tx_prim::parse_number;
 
-/// Where a cell stands in its column.
+/// The side of its column at which a cell is.
 #[derive(Clone, Copy, Debug, PartialEq, Eq)]
 pub enum Side {
     /// At the left.

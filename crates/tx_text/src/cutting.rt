@@ -33,7 +33,7 @@ pub struct Cluster {
 }
 
 impl Cluster {
-    /// The same cluster.
+    /// A copy of the cluster.
     pub fn copy(&self) -> Result<Cluster, Memory>
         ensures { IfOk result (λ c. c ≡ self.now) }
     {
@@ -55,7 +55,7 @@ struct Stretch {
     to: u32,
 }
 
-// A display text, and for each of its bytes where that byte's item stands in the text.
+// A display text, and for each of its bytes the place of that byte's item in the text.
 #[derive(Drop)]
 struct DisplayText {
     text: String,
@@ -63,7 +63,7 @@ struct DisplayText {
 }
 
 impl DisplayText {
-    // Adds the display text of the byte that stands here.
+    // Adds the display text of the byte at this place.
     fn add_byte(&mut self, byte: u8, here: Stretch) -> Result<(), Memory>
         requires { length self.old.places.items ≡ length (string_bytes self.old.text) }
         ensures text { OnOk result (string_bytes self.new.text ≡ string_bytes self.old.text ++ item_text (Byte byte)) }
@@ -75,7 +75,7 @@ impl DisplayText {
         Ok(())
     }
 
-    // Adds the display text of the symbol that stands here.
+    // Adds the display text of the symbol at this place.
     fn add_symbol(&mut self, name: &[u8], here: Stretch) -> Result<(), Memory>
         requires { length self.old.places.items ≡ length (string_bytes self.old.text) }
         ensures text { OnOk result (string_bytes self.new.text
@@ -163,7 +163,7 @@ fn is_plain(bytes: &[u8]) -> bool
         .all(|byte| matches!(*byte, b' '..=b'~') && *byte != b'<')
 }
 
-/// The cluster of a byte that stands at a place, among those of [`plain_bytes`].
+/// The cluster of a byte at a place, among those of [`plain_bytes`].
 pub fn plain_cluster(byte: u8, at: u32) -> Cluster
     ensures { result ≡ plain_cluster at byte }
 {
@@ -201,8 +201,8 @@ pub fn plain_bytes(text: &Text) -> Option<&[u8]>
     None
 }
 
-/// The clusters of a text, in order: the extended grapheme clusters of its display text. Their characters, one after
-/// the other, are the display text. The one error is want of memory.
+/// The clusters of a text, in order: the extended grapheme clusters of its display text. Their characters in order are
+/// the display text. The one error is `Memory`.
 pub fn clusters(alloc: Global, text: &Text) -> Result<Vec<Cluster>, Memory>
     ensures clusters { IfOk result (λ found. found.items ≡ clusters_of (items_of text.now)) }
     ensures whole { IfOk result (λ found. flat_map (λ cluster. cluster.glyphs) found.items

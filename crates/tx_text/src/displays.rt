@@ -1,4 +1,4 @@
-// What the items of a text show as, behind other text.
+// What the items of a text show as, appended to other text.
 ghost use Rattle.std.specs.Prelude.{◌≡◌, ◌≤◌, ◌++◌, length, nat_lt, if◌then◌else◌, Some, None, OnOk};
 ghost use Rattle.std.specs.Prelude.{encode_utf8_all, string_bytes};
 ghost use Rattle.std.specs.Char.{digit_value};

@@ -9,7 +9,7 @@ use tx_base::Memory;
 // The most bytes that a value holds in itself, so that it takes 16 bytes in all.
 const MOST_HERE: usize = 14;
 
-/// The characters of a cluster in UTF-8. Up to 14 bytes stand in the value itself, more in memory that copies share.
+/// The characters of a cluster in UTF-8. Up to 14 bytes are in the value itself, more in memory that copies share.
 /// Contracts see them as the list of these bytes.
 #[derive(Drop)]
 pub struct Glyphs {
@@ -74,7 +74,7 @@ impl Glyphs {
         }
     }
 
-    /// The same characters. More than 14 bytes are shared.
+    /// A copy of the characters. More than 14 bytes are shared.
     pub fn copy(&self) -> Result<Glyphs, Memory>
         ensures { IfOk result (λ g. g ≡ self.now) }
     {

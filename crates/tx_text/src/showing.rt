@@ -9,7 +9,7 @@ use crate::displays::symbol_char;
 use crate::tables::byte_char;
 use tx_tree::Text;
 
-// Puts a character at the start of a buffer, and answers how many bytes it takes.
+// Puts a character at the start of a buffer, and returns how many bytes it takes.
 fn put_char(shown: char, into: &mut [u8]) -> usize
     requires { 4 ≤ length into.old }
     ensures count { result ≡ length (encode_utf8 shown) }
@@ -23,7 +23,7 @@ fn put_char(shown: char, into: &mut [u8]) -> usize
     count
 }
 
-// Puts a symbol's display text at the start of a buffer, and answers how many bytes it takes.
+// Puts a symbol's display text at the start of a buffer, and returns how many bytes it takes.
 fn put_symbol(name: &[u8], into: &mut [u8]) -> usize
     requires name { IsName name.now }
     requires room { 257 ≤ length into.old }
@@ -57,9 +57,9 @@ fn name_of(bytes: &[u8]) -> &[u8]
     &bytes[..name_len(bytes)]
 }
 
-/// Puts the display text of the item that begins at a cut of a text at the start of a buffer, in UTF-8, and answers
-/// the number of its bytes, at most 257, and the cut behind the item. None comes exactly at the end of the text, and
-/// the buffer is then as before. It takes no memory.
+/// Puts the display text of the item that begins at a cut of a text at the start of a buffer, in UTF-8, and returns the
+/// number of its bytes, at most 257, and the cut after the item. None comes exactly at the end of the text, and the
+/// buffer is then as before. It takes no memory.
 pub fn show_item(text: &Text, at: usize, into: &mut [u8]) -> Option<(usize, usize)>
     requires cut { IsCut text.now at }
     requires room { 300 ≤ length into.old }

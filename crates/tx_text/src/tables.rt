@@ -2,7 +2,7 @@
 ghost use Rattle.std.specs.Prelude.{◌≡◌, map};
 ghost use Rattle.tx_text.specs.Tables.{byte_code, code_among, named_code};
 
-// The bytes 0 to 31, of which 9, 10 and 13 stand in no text.
+// The bytes 0 to 31, of which 9, 10 and 13 are in no text.
 const FIRST: [char; 32] = [
     '\u{60}', '\u{b4}', '\u{2c6}', '\u{2dc}', '\u{a8}', '\u{2dd}', '\u{2da}', '\u{2c7}', '\u{2d8}',
     '\u{9}', '\u{a}', '\u{b8}', '\u{2db}', '\u{d}', '\u{2039}', '\u{203a}', '\u{201c}', '\u{201d}',

@@ -44,8 +44,8 @@ impl TextBuilder {
         }
     }
 
-    /// Adds the byte, and answers true, where the bytes then still begin a text within the limit.
-    /// Else it answers false, and they stay.
+    /// Adds the byte, and returns true, where the bytes then still begin a text within the limit. Else it returns
+    /// false, and the bytes are unchanged.
     pub fn push(&mut self, byte: u8) -> Result<bool, Memory>
         ensures taken { IfOk result (λ taken. taken ≡ takes_byte self.old byte) }
         ensures after { IfOk result (λ taken. self.new ≡ (if taken then self.old ++ byte ∷ [] else self.old)) }
@@ -64,7 +64,7 @@ impl TextBuilder {
         }
     }
 
-    // How many of these bytes go on the text within the limit, and the place behind them.
+    // How many of these bytes continue the text within the limit, and the place after them.
     fn reach(&self, bytes: &[u8]) -> (usize, TextPlace)
         ensures within { result.0 ≤ length bytes.now }
         ensures short { length self.now + result.0 ≤ MOST_TEXT }
@@ -84,8 +84,8 @@ impl TextBuilder {
         (most, place)
     }
 
-    /// Adds bytes, as many as go on the beginning of a text within the limit, each behind those before it, and answers
-    /// how many. Memory is taken once for all of them. For want of it none is added.
+    /// Adds bytes in order, as many as continue the beginning of a text within the limit, and returns how many. Memory
+    /// is taken once for all of them. When out of memory none is added.
     pub fn extend(&mut self, bytes: &[u8]) -> Result<usize, Memory>
         ensures within { IfOk result (λ n. n ≤ length bytes.now) }
         ensures after { IfOk result (λ n. self.new ≡ self.old ++ take n bytes.now) }

@@ -13,7 +13,7 @@ use crate::faults::{PathFault, PlaceFault, TreeFault};
 use crate::labels::LabelFault;
 use crate::texts::TextFault;
 
-/// A law: bytes are a text within the limit, or have one fault. At a `BadByte` stands a tab, a newline, a return or
+/// A law: bytes are a text within the limit, or have one fault. At a `BadByte` there is a tab, a newline, a return or
 /// `>`, and with the byte at a fault no text goes on.
 pub fn text_fault_laws()
     ensures once { (bytes : List ℕ) (one other : TextFault) → IsTextFault bytes one → IsTextFault bytes other →
@@ -31,7 +31,7 @@ pub fn text_fault_laws()
 {}
 
 /// A law: first bytes that any numbers continue to a text, a label or a path are continued to one by bytes, which are
-/// below 256. So each longest front, by which faults are placed, goes on by bytes.
+/// below 256. Each longest front, by which faults are placed, is then continued by bytes.
 pub fn front_laws()
     ensures text { (front more : List ℕ) → IsText (front ++ more) →
         (bytes : List ℕ) × AllByRecursion (λ b. b < 256) bytes × IsText (front ++ bytes) }

@@ -46,22 +46,22 @@ pub enum ReadFault {
     /// All the bytes, so many, can be continued, and they spell no tree.
     #[error("unfinished at {0}")]
     Unclosed(usize),
-    /// At this place stands a byte that none of the other faults is for.
+    /// At this place is a byte that none of the other faults is for.
     #[error("a stray byte at {0}")]
     Stray(usize),
-    /// At this place stands a byte that no escape has.
+    /// At this place is a byte that no escape has.
     #[error("no escape at {0}")]
     BadEscape(usize),
-    /// At this place stands a byte with which no label goes on.
+    /// At this place is a byte with which no label goes on.
     #[error("no label at {0}")]
     BadLabel(usize),
-    /// At this place stands a byte with which no text goes on.
+    /// At this place is a byte with which no text goes on.
     #[error("no text at {0}")]
     BadText(usize),
-    /// The tag that is open begins at the first place, and at the second one stands a byte that differs from its label.
+    /// The tag that is open begins at the first place, and at the second one is a byte that differs from its label.
     #[error("another label at {1} than that of the tag at {0}")]
     Mismatch(usize, usize),
-    /// At this place, behind the tree, stands a byte that is no white.
+    /// At this place, after the tree, is a byte that is no white.
     #[error("more than a tree at {0}")]
     After(usize),
     /// The bytes spell a tree that passes this limit first, in the order text, arity, depth, size. The number is the

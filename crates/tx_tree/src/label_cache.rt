@@ -1,5 +1,5 @@
-// A cache of labels, so that nodes that are made one after the other share them. It is direct-mapped: each label has one
-// slot, which it takes from the label that was there before.
+// A cache of labels, so that nodes that are made in order share them. It is direct-mapped: each label has one slot,
+// which it takes from the label that was there before.
 ghost use Rattle.std.specs.Prelude.{◌≡◌, ◌≢◌, ◌<◌, IfOk, IfErr, IfSome, OnOk};
 ghost use Rattle.tx_tree.specs.Labels.{IsLabel, IsLabelFault};
 
@@ -18,7 +18,7 @@ pub struct LabelCache {
     slots: Vec<Option<Label>>,
 }
 
-// In which slot a label of these bytes is kept.
+// The slot of a label of these bytes.
 fn slot_of(bytes: &[u8]) -> usize
     ensures { result < SLOTS }
 {
@@ -30,7 +30,7 @@ fn slot_of(bytes: &[u8]) -> usize
     (first * 3 + last * 5 + bytes.len() % SLOTS) % SLOTS
 }
 
-// The same label, which shares the bytes.
+// A copy of the label, which shares its bytes.
 fn shared(label: &Label) -> Result<Label, LabelFault>
     ensures ok { IfOk result (λ l. l ≡ label.now) }
     ensures refused { IfErr result (λ fault. fault ≡ LabelFault.Memory) }
@@ -51,7 +51,7 @@ impl LabelCache {
         Ok(LabelCache { alloc, slots })
     }
 
-    // The label of these bytes, if it stands in the slot.
+    // The label of these bytes, if it is in the slot.
     fn kept(&self, slot: usize, bytes: &[u8]) -> Option<&Label>
         ensures bytes { IfSome result (λ l. l.now ≡ bytes.now) }
         ensures label { IfSome result (λ l. IsLabel l.now) }

@@ -37,7 +37,7 @@ impl<T: Drop> From<AllocFailed<T>> for LabelFault {
     }
 }
 
-/// Whether the byte may stand in a label: a letter, a digit, or one of `- _ + * : . ? ! = ~ @ $ % & ^`.
+/// Whether a label may have the byte: a letter, a digit, or one of `- _ + * : . ? ! = ~ @ $ % & ^`.
 #[tactic(auto, unfolding(crate::specs::Labels::is_label_byte))]
 pub fn is_label_byte(byte: u8) -> bool
     ensures { result ≡ is_label_byte byte }
@@ -110,7 +110,7 @@ impl Label {
         &self.bytes
     }
 
-    /// The same label, which shares the bytes.
+    /// A copy of the label, which shares its bytes.
     pub fn copy(&self) -> Result<Label, Memory>
         ensures { IfOk result (λ l. l ≡ self.now) }
     {

@@ -1,8 +1,8 @@
 //! Trees of a document: texts, labels, and nodes that share their parts.
 //!
-//! A tree is a text, or a label with a list of trees. Contracts see it as a wide tree (`specs/WideTree.antt`),
-//! which is a tree without limits. Each tree in hand is well formed and within the limits (`specs/Limits.antt`),
-//! and answers its size and depth without a walk.
+//! A tree is a text, or a label with a list of trees. Contracts see it as a wide tree (`specs/WideTree.antt`), which is
+//! a tree without limits. Each tree in hand is well formed and within the limits (`specs/Limits.antt`), and returns its
+//! size and depth without a walk.
 #![tactic(auto)]
 
 mod building;

@@ -5,8 +5,8 @@ ghost use Rattle.tx_tree.specs.PathSpelling.{SpellsPath, path_text, place_text};
 
 use crate::{MOST_NUMBER, MOST_STEPS};
 
-/// A law: the same bytes spell at most one path. A path as it is printed spells that path, where it has at most 400
-/// numbers, and a place as it is printed spells its path with the offset behind it.
+/// A law: bytes spell at most one path. A path as it is printed spells that path, where it has at most 400 numbers, and
+/// a place as it is printed spells its path with the offset after it.
 pub fn path_law()
     ensures once { (bytes p q : List ℕ) → SpellsPath bytes p → SpellsPath bytes q → p ≡ q }
     ensures path { (path : List ℕ) → length path ≤ MOST_STEPS → AllByRecursion (λ n. n ≤ MOST_NUMBER) path →

@@ -11,7 +11,7 @@ use std::fmt;
 use std::marker::Model;
 use tx_base::Memory;
 
-// Where the reading of a path stands: before all bytes, or behind a / and so many digits of a number.
+// How far the reading of a path is: before all bytes, or after a / and so many digits of a number.
 #[derive(Clone, Copy, Debug, PartialEq, Eq)]
 enum PathPlace {
     Start,
@@ -45,7 +45,7 @@ impl Path {
         }
     }
 
-    /// Adds a number at the end. For want of memory the path stays.
+    /// Adds a number at the end. When out of memory the path is unchanged.
     pub fn push(&mut self, i: u32) -> Result<(), Memory>
         ensures ok { OnOk result (self.new ≡ self.old ++ i ∷ []) }
         ensures err { OnErr result (self.new ≡ self.old) }
@@ -54,7 +54,7 @@ impl Path {
         Ok(())
     }
 
-    /// Takes off the last number, or answers None at the root, which stays.
+    /// Takes off the last number, or returns None at the root, which is unchanged.
     pub fn pop(&mut self) -> Option<u32>
         ensures { MatchOption result ((self.old ≡ []) × (self.new ≡ [])) (λ i. self.old ≡ self.new ++ i ∷ []) }
     {
@@ -68,7 +68,7 @@ impl Path {
         self.numbers.as_slice()
     }
 
-    /// The same path, with numbers of its own.
+    /// A copy of the path, with numbers of its own.
     pub fn copy(&self, alloc: Global) -> Result<Path, Memory>
         ensures { IfOk result (λ p. p ≡ self.now) }
     {
@@ -117,7 +117,7 @@ impl Path {
 }
 
 impl PathPlace {
-    // The place behind one byte more, or None where no path goes on so. A number that ends here is pushed.
+    // The place after one byte more, or None where no path goes on with it. A number that ends here is pushed.
     #[tactic(auto, unfolding(crate::specs::PathScan::path_step))]
     fn step(self, path: &mut Path, byte: u8) -> Result<Option<PathPlace>, Memory>
         ensures { IfOk result (λ next. MatchOption next (path_step (path_state path.old self) byte ≡ None)

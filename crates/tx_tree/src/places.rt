@@ -9,8 +9,8 @@ use std::alloc::Global;
 use std::fmt;
 use tx_base::Memory;
 
-/// A path and an offset. At a leaf the offset is a number of bytes that ends between two items of the text. At
-/// a node it is 0, before the node, or 1, behind it.
+/// A path and an offset. At a leaf the offset is a number of bytes that ends between two items of the text. At a node
+/// it is 0, before the node, or 1, after it.
 #[derive(Drop)]
 pub struct Place {
     /// The way from the root to the leaf or node.
@@ -36,7 +36,7 @@ impl Place {
         tree.check_offset(self.offset)
     }
 
-    /// The same place, with a path of its own.
+    /// A copy of the place, with a path of its own.
     pub fn copy(&self, alloc: Global) -> Result<Place, Memory>
         ensures { IfOk result (λ p. p ≡ self.now) }
     {

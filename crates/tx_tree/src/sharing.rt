@@ -5,7 +5,7 @@ use crate::Memory;
 use crate::trees::Tree;
 use std::alloc::Global;
 
-/// Adds shares of the trees at the end. After a fault some of them may stand there.
+/// Adds shares of the trees at the end. After a fault some of them may be there.
 pub fn share_onto(into: &mut Vec<Tree>, trees: &[Tree]) -> Result<(), Memory>
     ensures { OnOk result (into.new.items ≡ into.old.items ++ trees.now) }
 {
@@ -15,7 +15,7 @@ pub fn share_onto(into: &mut Vec<Tree>, trees: &[Tree]) -> Result<(), Memory>
     Ok(())
 }
 
-/// The same tree, or none again.
+/// A share of the tree, or none again.
 pub fn share_tree(tree: &Option<Tree>) -> Result<Option<Tree>, Memory>
     ensures { IfOk result (λ t. t ≡ tree.now) }
 {

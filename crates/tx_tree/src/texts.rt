@@ -27,7 +27,7 @@ pub enum TextFault {
     /// So many bytes, of which 1,048,575 are allowed.
     #[error("{0} bytes")]
     TooLong(u64),
-    /// At this place stands a byte that is no item.
+    /// At this place is a byte that is no item.
     #[error("no item at {0}")]
     BadByte(usize),
     /// At this place a symbol can't go on so, or the bytes end within one.
@@ -54,12 +54,12 @@ impl<T: Drop> From<AllocFailed<T>> for TextFault {
     }
 }
 
-/// Where the reading of a text stands.
+/// How far the reading of a text is.
 #[derive(Clone, Copy, Debug, PartialEq, Eq)]
 pub enum TextPlace {
     /// Between two items, or at an edge.
     Between,
-    /// In a symbol, behind so many bytes of its name.
+    /// In a symbol, after so many bytes of its name.
     InSymbol(usize),
 }
 
@@ -77,7 +77,7 @@ pub fn is_name_byte(byte: u8) -> bool
 }
 
 impl TextPlace {
-    /// The place behind one byte more, or None where no text goes on so.
+    /// The place after one byte more, or None where no text goes on with it.
     #[tactic(auto, unfolding(crate::specs::TextScan::text_step))]
     pub fn step(self, byte: u8) -> Option<TextPlace>
         ensures { result ≡ text_step self byte }
@@ -159,7 +159,7 @@ fn scan(bytes: &[u8]) -> Result<(), TextFault>
     }
 }
 
-// Where the reading of the bytes of a text stands behind them, or None where they begin no text.
+// How far the reading of the bytes of a text is after them, or None where they begin no text.
 fn read_front(bytes: &[u8]) -> Option<TextPlace>
     ensures { result ≡ text_run (Some Between) bytes.now }
 {
@@ -228,7 +228,7 @@ impl Text {
         }
     }
 
-    /// The same text, which shares the bytes.
+    /// A copy of the text, which shares its bytes.
     pub fn copy(&self) -> Result<Text, Memory>
         ensures { IfOk result (λ t. t ≡ self.now) }
     {
@@ -238,7 +238,7 @@ impl Text {
     }
 }
 
-/// The text of these bytes, where the caller knows that they are one within the limit. Else it answers `Memory` too.
+/// The text of these bytes, where the caller knows that they are one within the limit. Else it returns `Memory` too.
 pub fn text_of(alloc: Global, bytes: &[u8]) -> Result<Text, Memory>
     ensures { IfOk result (λ t. t ≡ bytes.now) }
 {

@@ -89,7 +89,7 @@ impl Tree {
     }
 
     /// The node with this label and these children, unless it passes a limit: the fault is the first one that it
-    /// passes, of children, depth and size. It is one step, whatever it answers.
+    /// passes, of children, depth and size. It is one step, whatever it returns.
     pub fn node<L: Ledger>(
         alloc: Global,
         label: Label,
@@ -126,7 +126,7 @@ impl Tree {
         })
     }
 
-    /// The same tree, which shares all its parts.
+    /// A share of the tree, which shares all its parts.
     pub fn share(&self) -> Result<Tree, Memory>
         ensures { IfOk result (λ t. t ≡ self.now) }
     {

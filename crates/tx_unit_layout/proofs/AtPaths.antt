@@ -1,4 +1,4 @@
--- What is kept at the path of a part, where no path stands twice.
+-- What is cached at the path of a part, where no two parts have one path.
 use Rattle.std.proofs.Common.{◌≡◌, ℕ, zero, suc, List, [], ◌∷◌, Some, refl, ◌∙◌, subst}
 use Rattle.std.proofs.lemmas.Slice.Eq.{bytes_eq-Decides}
 use Rattle.std.specs.Prelude.{Bool, false, slice_get}
@@ -21,7 +21,7 @@ not_at path (d ∷ ds) zero s others h =
     subst (λ (r : Stored). bytes_eq path r.path ≡ false) same others.0
 not_at path (d ∷ ds) (suc k) s others h = not_at path ds k s others.1 h
 
--- each path tells the part that stands there
+-- at the path of each part its trace is cached
 kept_there : (ds : List DonePart) (k : ℕ) (s : Stored) → IsDistinct bytes_eq (paths_of ds)
     → slice_get (kept_parts ds) k ≡ Some s → kept_at (kept_parts ds) s.path ≡ s.trace
 unfolding IsDistinct
@@ -36,7 +36,7 @@ kept_there (d ∷ ds) (suc k) s distinct h =
     (not_at d.path ds k s distinct.0 h)
     ∙ kept_there ds k s distinct.1 h
 
--- so what is kept stays, whatever the flags
+-- what is cached is unchanged, whatever the flags
 pub all_stay : (ds : List DonePart) (fs : List Bool) → IsDistinct bytes_eq (paths_of ds)
     → Stays (kept_parts ds) (kept_parts ds) fs
 all_stay ds fs distinct = λ k s h flag. kept_there ds k s distinct h

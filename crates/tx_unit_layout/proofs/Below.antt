@@ -1,4 +1,4 @@
--- How many lines of a unit stand above a part, and which stretch a line is of.
+-- How many lines of a unit are above a part, and in which stretch a line is.
 use Rattle.std.proofs.Common.{◌≡◌, ℕ, zero, suc, ◌+◌, ◌≤◌, ◌<◌, List, [], ◌∷◌, ◌++◌, map, length, take, get_or}
 use Rattle.std.proofs.Common.{refl, ap, sym, ◌∙◌, subst, arith, length-append}
 use Rattle.std.specs.Prelude.{Some, None, slice_get}
@@ -45,14 +45,14 @@ placed_fit (q ∷ ps) (suc i) p lt is =
 
 -- ---- parts above each other
 
--- nothing stands above the first
+-- nothing is above the first
 pub first_above : (ps : List PlacedPart) (line : ℕ) → AreBelow 0 ps → (p : PlacedPart) → slice_get ps 0 ≡ Some p
     → p.above ≤ line
 first_above [] line below p is = cc
 first_above (q ∷ ps) line below p is =
     let same : q ≡ p = cc in omega (arith, below.0, ap (λ (r : PlacedPart). r.above) same)
 
--- the lines of a part are the last of all where the next one would begin behind a line that is below it
+-- the lines of a part are the last of all where the next one would begin after a line that is below it
 pub last_above : (ps : List PlacedPart) (n k j line : ℕ) (p : PlacedPart) → AreBelow n ps → slice_get ps k ≡ Some p
     → j ≡ k + 1 → ((q : PlacedPart) → slice_get ps j ≡ Some q → line < q.above)
     → p.above + length p.laid.value.lines ≤ line → n + length (placed_lines ps) ≡ p.above + length p.laid.value.lines
@@ -148,7 +148,7 @@ behind_same [] ys n k is = ap (λ i. slice_get ys i) (omega (arith, is))
 behind_same (x ∷ xs) ys zero k is = absurd (omega (arith, is))
 behind_same (x ∷ xs) ys (suc n) k is = behind_same xs ys n k (omega (arith, is))
 
--- what stands at a place in one of some lists
+-- what is at a place in one of some lists
 found_in : {A : Type 0} (f : WideStretch → List A) (ss : List WideStretch) (k n m : ℕ) (s : WideStretch)
     → slice_get ss k ≡ Some s → n < length (f s) → m ≡ length (flat_map f (take k ss)) + n
     → slice_get (flat_map f ss) m ≡ slice_get (f s) n

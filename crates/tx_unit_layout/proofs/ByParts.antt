@@ -37,7 +37,7 @@ use Rattle.tx_unit_layout.proofs.DoneParts.{values_are}
 use Rattle.tx_unit_layout.proofs.Renewed.{are_of, laid_parts}
 use Rattle.tx_unit_layout.proofs.Reusing.{anew_alike, anew_within, at_some}
 
--- what the parts show, by what is kept of them
+-- what the parts show, by what is cached of them
 parts_are : (a : Attrs) (e : Entry) (ds : List DonePart)
     → shown_parts_of a e (kept_parts ds) ≡ (whole_shown a ds e.unit.tagged.tree).each
 parts_are a e ds =
@@ -67,7 +67,7 @@ laid_ats_are a e ds ps by h =
 
 -- ---- what is shown
 
--- this is shown of a unit with this path that is laid out so
+-- this is shown of a unit with this path that has this layout
 pub record IsMade (path : Option (List ℕ)) (l : LaidUnit) (x : Shown) : Type 0 where
   pub path_is : x.path ≡ path
   pub errors : x.errors.items ≡ l.errors.items
@@ -150,7 +150,7 @@ module _ (width : ℕ) (a : Attrs) (u : DocUnit) (trace : WideTrace) (ds : List 
         pathless None ls none h = cc
         pathless (Some p) ls none h = cc
 
-    -- of what its parts are laid out
+    -- the paths of its parts and the attributes for which they are laid out
     pub ats_by_parts : map laid_at x.parts ≡ laid_ats a e (kept_parts ds)
     ats_by_parts = ap (map laid_at) is.parts ∙ laid_ats_are a e ds l.parts.items by_parts laid.parts
 

@@ -1,4 +1,4 @@
--- Parts that go where it is told that they stand.
+-- Parts that are put to their new places.
 use Rattle.std.proofs.Common.{◌≡◌, ℕ, ◌+◌, ◌<◌, ◌≤◌, List, [], ◌∷◌, ◌++◌, length, drop, take, map, get_or, refl}
 use Rattle.std.proofs.Common.{Option, Some, None, sym, ap, ◌∙◌, arith, slice_set, option_map}
 use Rattle.std.proofs.lemmas.List.{append_assoc, append-nil, drop_more, drop_all, take-set-le, drop-set-lt}
@@ -36,7 +36,7 @@ module _ (old : List PlacedPart) (at i : ℕ) (ms later : PartPlaces) (inside : 
       ∙ ap (λ ps. take at old ++ ps)
       (sym (stays (get_or old i d) (drop (i + 1) old)) ∙ ap (put_along i ms) (sym (drop_more old i d inside)))
 
-  -- it goes
+  -- it is dropped
   pub gone_same : ((p : PlacedPart) (ps : List PlacedPart) → put_along i ms (p ∷ ps) ≡ put_along (i + 1) later ps)
       → take at old ++ put_along (i + 1) later (drop (i + 1) old) ≡ take at old ++ put_along i ms (drop i old)
   gone_same goes =
@@ -69,7 +69,7 @@ module _ (old : List PlacedPart) (at i : ℕ) (ms later : PartPlaces) (inside : 
       ∙ ap (λ ps. take at old ++ ps)
       (sym (puts p (drop (i + 1) old)) ∙ ap (put_along i ms) (sym (drop_more old i d inside)))
 
--- Behind i parts of ps, of which `at` stay, and k of the places.
+-- After i parts of ps, of which `at` are left, and k of the places.
 pub record PutSoFar (ps now : List PlacedPart) (ms left : PartPlaces) (i at k : ℕ) : Type 0 where
   pub same : take at now ++ put_along i (drop k left) (drop i now) ≡ put_along 0 ms ps
   pub order : at ≤ i
@@ -83,13 +83,13 @@ all_are_put ps now ms left i at k h past =
     (sym (ap (put_along i (drop k left)) (drop_all i now past) ∙ put_none i (drop k left)))
     ∙ h.same
 
--- ---- wherever in memory lies what is laid out
+-- ---- wherever in memory the layouts are
 
 none_put : (i : ℕ) (ps : List PlacedPart) → map wide_part ps ≡ laid_by (places_by i [] (laid_paths ps)) ps
 none_put i [] = refl
 none_put i (p ∷ ps) = ap (λ ws. wide_part p ∷ ws) (none_put (i + 1) ps)
 
--- what the parts show goes where they stand
+-- the layouts of the parts are at their new places
 pub wide_put : (i : ℕ) (ms : PartPlaces) (ps : List PlacedPart)
     → map wide_part (put_along i ms ps) ≡ laid_by (places_by i ms (laid_paths ps)) ps
 wide_put i [] ps = none_put i ps

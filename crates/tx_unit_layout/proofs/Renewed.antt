@@ -1,4 +1,4 @@
--- What is laid out of a unit anew, and what is kept of it then.
+-- What is laid out of a unit anew, and what is then cached of it.
 use Rattle.std.proofs.Common.{◌≡◌, ◌⊎◌, inl, inr, ℕ, zero, suc, List, [], ◌∷◌, map, refl, ap, sym, ◌∙◌, subst}
 use Rattle.std.specs.Prelude.{Bool, true, false, if◌then◌else◌, ◌&&◌, is_some, Option, Some, None}
 use Rattle.std.specs.Prelude.{Result, Ok, Err, OnOk}
@@ -29,7 +29,7 @@ use Rattle.tx_unit_layout.proofs.Heads.{first_same, others_same}
 
 -- ---- what was laid out before
 
--- what is laid out of a part is of the value that is kept at its path
+-- the layout of a part is of the value that is cached at its path
 record IsOfKept (ks : KeptParts) (p : PlacedPart) : Type 0 where
   trace : WideTrace
   kept : kept_at ks p.path ≡ Some trace
@@ -94,7 +94,7 @@ of_values held ps (d ∷ ds) h stays = (
   of_values held ps ds h (λ k s. stays (suc k) s),
 )
 
--- what was laid out of parts that stay is of their values
+-- the layouts of parts whose flags are down are of their values
 pub all_of_value : (width : ℕ) (held : KeptParts) (ps : List PlacedPart) (ds : List DonePart)
     → AreLaidParts width held ps → Stays held (kept_parts ds) (flags_of_parts ds)
     → All (λ d. All (λ p. IsOfValue p d) ps) ds
@@ -102,7 +102,7 @@ all_of_value width held ps ds laid stays =
     All-from_recursion (λ d. All (λ p. IsOfValue p d) ps) ds
     (of_values held ps ds (either_kept held ps laid.of_kept laid.distinct) stays)
 
--- ---- what is kept of the parts
+-- ---- what is cached of the parts
 
 abbrev pub values_of : List PlacedPart → List WideValue
 values_of ps = map (λ p. p.laid.value.value) ps
@@ -122,7 +122,7 @@ are_of (p ∷ ps) (d ∷ ds) paths values = (
   are_of ps ds (others_same p.path d.path _ _ paths) (others_same p.laid.value.value d.trace.value _ _ values),
 )
 
--- what is laid out of the parts is of what is kept of them
+-- the layouts of the parts are of what is cached of them
 pub laid_parts : (width : ℕ) (ps : List PlacedPart) (ds : List DonePart) → All (λ p. IsLaidPart width p.laid.value) ps
     → IsDistinct bytes_eq (paths_of ds) → laid_paths ps ≡ paths_of ds
     → values_of ps ≡ map (λ d. d.trace.value) ds → AreLaidParts width (kept_parts ds) ps
@@ -175,7 +175,7 @@ module _ (width : ℕ) (e : Entry) (ds : List DonePart) (a : Attrs) (x : Shown)
       (subst (AreOf (kept_parts ds)) (sym none) (subst (λ (ks : KeptParts). AreOf ks []) (sym nothing) tt))
       (no_parts width (kept_parts ds) x.parts none)
 
--- so a unit with this path and this value, of which this call answers
+-- a unit with this path and this value that a call lays out whole
 pub laid_whole : {X E : Type 0} (r : Result X E) (width : ℕ) (e : Entry) (ds : List DonePart) (a : Attrs)
     (v : WideValue) (path : Option (List ℕ)) (x : Shown) → IsDistinct bytes_eq (paths_of ds) → is_by_parts e ≡ false
     → kept_parts ds ≡ [] → path ≡ e.unit.path → v ≡ unit_value e.trace → OnOk r (IsLaidOut width a v path x)
@@ -193,7 +193,7 @@ pub over_whole : (b : Bool) (o : Option WideTrace) → o ≡ None → b && is_so
 over_whole true o h = ap (λ (t : Option WideTrace). is_some t) h
 over_whole false o h = refl
 
--- nothing is kept of their parts
+-- nothing is cached of their parts
 pub no_parts_kept : (m : Moment) (u : DocUnit) (o : Option WideTrace) (ks : KeptParts)
     → has_parts u && is_some o ≡ false → o ≡ outcome_of m u → ks ≡ fresh_parts m u → ks ≡ []
 no_parts_kept m u o ks whole is kept =

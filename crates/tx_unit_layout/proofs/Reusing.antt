@@ -26,7 +26,7 @@ before_alike [] path = refl
 before_alike (p ∷ ps) path =
     ap (λ o. if bytes_eq p.path path then Some p.laid.value.before else o) (before_alike ps path)
 
--- so many items, where shown parts stand at the paths of the parts
+-- so many items, where shown parts are at the paths of the parts
 pub anew_alike : (old : List PlacedPart) (ds : List DonePart) (ps : List ShownPart)
     → map (λ p. p.path) ps ≡ map (λ d. d.path) ds
     → items_anew old ds ps ≡ items_by_parts (map laid_at old) (map (λ d. d.renewed) ds) ps

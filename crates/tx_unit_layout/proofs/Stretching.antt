@@ -98,7 +98,7 @@ items_short : (base : List ℕ) (is : List Item) → AllByRecursion IsShort (map
 items_short base [] h = tt
 items_short base (i ∷ is) h = (item_short base i h.0, items_short base is h.1)
 
--- so it is of the items of a line, if it is so under a path
+-- the items of a line are short, if they are so under a path
 pub line_short : (base : List ℕ) (is : List Item) → All IsShort (map (item_under base) is) → All IsShort is
 line_short base is h =
     All-from_recursion IsShort is

@@ -1,4 +1,4 @@
--- Where the parts of a unit stand that are laid out, for which attributes, and how many items laying it out anew takes.
+-- Where the parts of a unit are laid out, for which attributes, and how many items laying the unit out anew takes.
 use Rattle.std.specs.Prelude.{ℕ, ◌+◌, Bool, not, ◌&&◌, is_some, if◌then◌else◌, List, [], ◌∷◌, map}
 use Rattle.std.specs.Prelude.{Option, Some, None, refl}
 use Rattle.std.specs.Coded.{Coded, code_by, coded×, coded_list, coded_ℕ}
@@ -14,7 +14,7 @@ use Rattle.tx_part_layout.specs.LaidParts.{is_before, items_in}
 use Rattle.tx_bridge.specs.Entries.{Entry}
 use Rattle.tx_bridge.specs.PartsKept.{KeptParts, has_parts}
 
--- where a part stands in its unit, and the attributes before it for which it was laid out
+-- where a part is in its unit, and the attributes before it for which it was laid out
 pub record LaidAt : Type 0 where
   pub path : List ℕ
   pub before : Attrs
@@ -27,15 +27,15 @@ shown_at p = record { path = p.path; before = p.before }
 
 -- ---- a unit
 
--- a paragraph of the body that isn't over is laid out by its parts
+-- a paragraph of the body that doesn't run out of steps or levels is laid out by its parts
 abbrev pub is_by_parts : Entry → Bool
 is_by_parts e = has_parts e.unit && is_some e.trace
 
--- what the parts of a unit show, where these are the attributes before it and this is kept of its parts
+-- what the parts of a unit show, where these are the attributes before it and this is cached of its parts
 abbrev pub shown_parts_of : Attrs → Entry → KeptParts → List ShownPart
 shown_parts_of a e ks = (tree_shown MOST_LEVELS a ks e.unit.tagged.tree).each
 
--- where the parts of a unit stand, and the attributes before each, if it is laid out by its parts
+-- where the parts of a unit are, and the attributes before each, if it is laid out by its parts
 abbrev pub laid_ats : Attrs → Entry → KeptParts → List LaidAt
 laid_ats a e ks = if is_by_parts e then map shown_at (shown_parts_of a e ks) else []
 
@@ -46,7 +46,7 @@ abbrev pub laid_before : List LaidAt → List ℕ → Option Attrs
 laid_before [] path = None
 laid_before (l ∷ ls) path = if bytes_eq l.path path then Some l.before else laid_before ls path
 
--- what was laid out of a part is used again where it has no flag and these are the attributes before it
+-- the former layout of a part is used again where it has no flag and these are the attributes before it
 abbrev pub stays_laid : List LaidAt → Bool → ShownPart → Bool
 stays_laid ls flag p = not flag && is_before (laid_before ls p.path) p.before
 
@@ -57,8 +57,8 @@ items_by_parts ls (f ∷ fs) [] = 0
 items_by_parts ls (f ∷ fs) (p ∷ ps) =
     (if stays_laid ls f p then 0 else items_in (own_paragraphs p)) + items_by_parts ls fs ps
 
--- The items that are laid out anew of a unit behind these attributes: those of the parts that aren't used again, or
--- all. These are the flags of its parts, and of these they were laid out before.
+-- The items that are laid out anew of a unit after these attributes: those of the parts whose layouts aren't used
+-- again, or all. These are the flags of its parts, and these are their former layouts.
 abbrev pub unit_items_anew : Attrs → Entry → KeptParts → List Bool → List LaidAt → ℕ
 unit_items_anew a e ks fs ls =
     if is_by_parts e then items_by_parts ls fs (shown_parts_of a e ks)

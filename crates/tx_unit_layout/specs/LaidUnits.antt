@@ -1,4 +1,4 @@
--- A unit that is laid out, with what is kept of it.
+-- A unit that is laid out, with what is cached of it.
 use Rattle.std.specs.Prelude.{◌≡◌, ℕ, ◌≤◌, ◌⊎◌, Bool, false, List, [], ◌∷◌, map, length, Option, Some, slice_get}
 use Rattle.std.specs.List.{All, IsDistinct}
 use Rattle.std.specs.Str.{bytes_eq}
@@ -27,27 +27,27 @@ pub record IsLaidOut (width : ℕ) (a : Attrs) (v : WideValue) (path : Option (L
 
 -- ---- parts
 
--- what is laid out of a part is of the trace that is kept of it
+-- the layout of a part is of the trace that is cached of it
 pub record IsLaidOfKept (k : Stored) (p : PlacedPart) : Type 0 where
   pub path : p.path ≡ k.path
   pub trace : WideTrace
   pub kept : k.trace ≡ Some trace
   pub value : p.laid.value.value ≡ trace.value
 
--- so it is of all parts that are kept
+-- the layouts are those of all cached parts, in order
 abbrev pub AreOf : KeptParts → List PlacedPart → Type 0
 AreOf [] [] = Unit {0}
 AreOf [] (p ∷ ps) = ⊥
 AreOf (k ∷ ks) [] = ⊥
 AreOf (k ∷ ks) (p ∷ ps) = IsLaidOfKept k p × AreOf ks ps
 
--- Of no part something is laid out, or of each part that is kept, in their order. No two have one path.
+-- No part has a layout, or each cached part has one, in their order. No two have one path.
 pub record AreLaidParts (width : ℕ) (ks : KeptParts) (ps : List PlacedPart) : Type 0 where
   pub each : All (λ p. IsLaidPart width p.laid.value) ps
   pub distinct : IsDistinct bytes_eq (laid_paths ps)
   pub of_kept : (ps ≡ []) ⊎ AreOf ks ps
 
--- What is kept now of a part whose flag is down was held at its path.
+-- What is cached now of a part whose flag is down was held at its path.
 abbrev pub Stays : KeptParts → KeptParts → List Bool → Type 0
 Stays held ks fs = (k : ℕ) (s : Stored) → slice_get ks k ≡ Some s → slice_get fs k ≡ Some false
     → kept_at held s.path ≡ s.trace
@@ -55,8 +55,8 @@ Stays held ks fs = (k : ℕ) (s : Stored) → slice_get ks k ≡ Some s → slic
 -- ---- a unit
 
 -- What is shown has the unit's path. Where the unit is laid out for some attributes, it shows what its trace shows
--- behind these, each of its parts is laid out for the attributes before it, and what is kept of them is what was held.
--- In any case, what is laid out of a part is of what was held of it.
+-- after these, each of its parts is laid out for the attributes before it, and the layouts are those of the cached
+-- parts. In any case, the layout of a part is of what was held of it.
 pub record IsLaid (width : ℕ) (e : Entry) (ks held : KeptParts) (x : Shown) : Type 0 where
   pub path : x.path ≡ e.unit.path
   pub laid : (a : Attrs) → x.laid ≡ Some a → IsLaidOut width a (unit_value e.trace) e.unit.path x
@@ -65,7 +65,7 @@ pub record IsLaid (width : ℕ) (e : Entry) (ks held : KeptParts) (x : Shown) : 
   pub same : (a : Attrs) → x.laid ≡ Some a → ks ≡ held
   pub parts : AreLaidParts width held x.parts
 
--- So it was for something that was held, of which what is kept of parts without a flag has stayed.
+-- It was laid out with some parts that were held. What is cached now of the parts without a flag is what was held.
 pub record WasLaid (width : ℕ) (e : Entry) (ks : KeptParts) (fs : List Bool) (x : Shown) : Type 0 where
   pub held : KeptParts
   pub stays : Stays held ks fs

@@ -1,4 +1,4 @@
--- What is laid out of parts goes with them through an edit.
+-- The layouts of parts are carried with them through an edit.
 use Rattle.std.specs.Prelude.{ℕ, ◌+◌, ◌==◌, if◌then◌else◌, List, [], ◌∷◌, Option, Some, None, option_map}
 use Rattle.std.specs.List.{cons_option}
 use Rattle.tx_part_layout.specs.declared.laid.LaidPart.{LaidPart}
@@ -7,12 +7,12 @@ use Rattle.tx_part_layout.specs.LaidParts.{put_to}
 
 -- ---- in place
 
--- where parts of these numbers stand afterwards; one that doesn't stay stands nowhere
+-- where parts of these numbers are afterwards; nowhere for one that isn't carried
 abbrev pub PartPlaces : Type 0
 PartPlaces = List (ℕ × Option (List ℕ))
 
--- The parts, whose numbers begin with i, as they stand afterwards: those of these numbers where it is told, and each
--- other one where it stood. The numbers are in order.
+-- The parts, whose numbers begin with i, as they are afterwards: those of these numbers at these places, and each other
+-- one where it was. The numbers are in order.
 abbrev pub put_along : ℕ → PartPlaces → List PlacedPart → List PlacedPart
 put_along i [] ps = ps
 put_along i (m ∷ ms) [] = []
@@ -20,7 +20,7 @@ put_along i (m ∷ ms) (p ∷ ps) =
     if m.0 == i then cons_option (option_map (λ path. put_to path p) m.1) (put_along (i + 1) ms ps)
     else p ∷ put_along (i + 1) (m ∷ ms) ps
 
--- ---- wherever in memory lies what is laid out
+-- ---- wherever in memory the layouts are
 
 -- a part in its place
 pub record WidePart : Type 0 where
@@ -31,11 +31,11 @@ pub record WidePart : Type 0 where
 abbrev pub wide_part : PlacedPart → WidePart
 wide_part p = record { path = p.path; above = p.above; laid = p.laid.value }
 
--- the same at another path
+-- the part at another path
 abbrev pub put_at : List ℕ → PlacedPart → WidePart
 put_at path p = record { path = path; above = p.above; laid = p.laid.value }
 
--- What is laid out of parts that stand at these places afterwards; of one that stands nowhere it goes.
+-- The layouts of parts that are at these places afterwards. That of a part that is nowhere is dropped.
 abbrev pub laid_by : List (Option (List ℕ)) → List PlacedPart → List WidePart
 laid_by [] ps = []
 laid_by (q ∷ qs) [] = []

@@ -1,4 +1,4 @@
--- Where the lines of a unit stand among its stretches.
+-- Where the lines of a unit are among its stretches.
 use Rattle.std.specs.Prelude.{◌≡◌, ℕ, ◌+◌, ◌≤◌, ◌<◌, List, length, take, Some, slice_get, option_map}
 use Rattle.std.specs.List.{flat_map}
 use Rattle.tx_part_layout.specs.LinesUnder.{line_under}
@@ -12,7 +12,7 @@ pub record IsPartAbove (ps : List PlacedPart) (line k : ℕ) : Type 0 where
   pub begins : (p : PlacedPart) → slice_get ps k ≡ Some p → p.above ≤ line
   pub next : (p : PlacedPart) → slice_get ps (k + 1) ≡ Some p → line < p.above
 
--- the line stands in this stretch, under this number
+-- the line is in this stretch, under this number
 pub record IsLineOf (x : Shown) (line : ℕ) (r : ℕ × ℕ) : Type 0 where
   pub stretch : WideStretch
   pub there : slice_get (stretches x) r.0 ≡ Some stretch

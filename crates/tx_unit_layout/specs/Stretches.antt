@@ -1,4 +1,4 @@
--- What is shown of a unit, stretch by stretch: each tells its places from one path.
+-- What is shown of a unit, stretch by stretch. Each gives its places from one path.
 use Rattle.std.specs.Prelude.{ℕ, List, [], ◌∷◌, ◌++◌, map, Option, Some, None, refl}
 use Rattle.std.specs.Coded.{Coded, code_by, coded×, coded_list, coded_ℕ}
 use Rattle.tx_items.specs.contracts.drawing.Paragraph as one_paragraph
@@ -10,7 +10,7 @@ use Rattle.tx_part_layout.specs.LinesUnder.{line_under}
 use Rattle.tx_part_layout.specs.declared.laid.PlacedPart.{PlacedPart}
 use Rattle.tx_unit_layout.specs.declared.shown.Shown.{Shown}
 
--- paragraphs and their lines, and the path, from the tree of the unit, from which their places are told
+-- paragraphs and their lines, and the path, from the tree of the unit, from which their places are given
 pub record WideStretch : Type 0 where
   pub part : List ℕ
   pub paragraphs : List Paragraph
@@ -27,14 +27,14 @@ own_stretch s = record { part = []; paragraphs = s.paragraphs.items; lines = s.l
 abbrev pub stretches : Shown → List WideStretch
 stretches s = map part_stretch s.parts ++ own_stretch s ∷ []
 
--- as they stand in the unit
+-- as they are in the unit
 abbrev pub stretch_paragraphs : WideStretch → List Paragraph
 stretch_paragraphs s = map (paragraph_under s.part) s.paragraphs
 
 abbrev pub stretch_lines : WideStretch → List Line
 stretch_lines s = map (line_under s.part) s.lines
 
--- of each line of a unit, the path from which its places are told
+-- of each line of a unit, the path from which its places are given
 abbrev pub line_parts : WideStretch → List (List ℕ)
 line_parts s = map (λ line. s.part) s.lines
 

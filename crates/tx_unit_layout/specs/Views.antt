@@ -16,7 +16,7 @@ unit_view s = record {
 }
 
 -- Only a unit with a path has lines, and the places of their clusters are short. Where the unit is laid out, its parts
--- tell their first lines.
+-- have the numbers of their first lines.
 pub record IsReadable (s : Shown) : Type 0 where
   pub placed : s.path ≡ None → (unit_view s).lines ≡ []
   pub short : All (λ line. All IsShort line.items) (unit_view s).lines

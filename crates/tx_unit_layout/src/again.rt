@@ -1,4 +1,4 @@
-// A unit laid out by its parts, with what was laid out of them before.
+// A unit laid out by its parts, with their former layouts.
 ghost use Rattle.std.specs.Prelude.{◌≡◌, ◌+◌, ◌≤◌, ◌<◌, ◌^◌, [], ℕ, IfOk, OnErr, All, Some, map, length};
 ghost use Rattle.std.specs.List.{IsDistinct};
 ghost use Rattle.std.specs.Str.{bytes_eq};
@@ -22,8 +22,8 @@ use tx_part_layout::{LaidUnit, lay_parts};
 use tx_tree::Tree;
 use tx_walk::Part;
 
-/// Lays a unit out by its parts, where these are its tree and its parts in order, and the attributes before it. What
-/// was laid out of a part before is moved out of `former` where it is used again. For want of memory `former` is as it
+/// Lays a unit out by its parts, where these are its tree and its parts in order, and the attributes before it. The
+/// former layout of a part is moved out of `former` where it is used again. When memory runs out, `former` is as it
 /// was.
 pub(crate) fn lay_again<L: Ledger>(
     alloc: Global,

@@ -36,8 +36,8 @@ use tx_units::Unit;
 use tx_view_form::{short_law, weight_laws};
 use tx_walk::Part;
 
-// A law: the parts of a paragraph of the body that isn't over are few, and their values are small, as the unit's is. By
-// these parts its tree comes to its trace.
+// A law: the parts of a paragraph of the body that doesn't run out of steps or levels are few, and their values are
+// small, as the unit's is. With these parts its tree evaluates to its trace.
 fn done_parts_law(unit: &Unit, trace: &Trace, parts: &[Part])
     requires body { has_parts unit.now ≡ true }
     requires placed { HasPathIfBody unit.now }
@@ -56,9 +56,8 @@ fn done_parts_law(unit: &Unit, trace: &Trace, parts: &[Part])
     trace_laws();
 }
 
-/// Lays a paragraph of the body out that comes to this trace and has these parts, and answers how many items were laid
-/// out. What was laid out of a part that wasn't evaluated anew is used again where the attributes before it are the
-/// same.
+/// Lays out a paragraph of the body with this trace and these parts, and returns how many items were laid out. The
+/// former layout of a part that wasn't evaluated anew is used again where the attributes before it are the same.
 pub(crate) fn lay_by_parts<L: Ledger>(
     alloc: Global,
     unit: &Unit,

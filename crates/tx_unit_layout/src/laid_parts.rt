@@ -1,4 +1,4 @@
-// What is laid out of the parts of a unit.
+// The layouts of the parts of a unit.
 ghost use Rattle.std.specs.Prelude.{◌≡◌, ◌++◌, ◌+◌, ◌<◌, ◌≤◌, [], ◌∷◌, List, take, drop, length, map, option_map};
 ghost use Rattle.std.specs.Prelude.{slice_index_or, slice_set, All, IfOk, OnOk, OnErr, IsTrue, IsFalse, MatchOption};
 ghost use Rattle.std.specs.Prelude.{not};
@@ -16,7 +16,7 @@ use tx_base::Memory;
 use tx_part_layout::PlacedPart;
 use tx_tree::Path;
 
-/// What is laid out of the parts of a unit, in order. Contracts see their list.
+/// The layouts of the parts of a unit, in order. Contracts see their list.
 #[derive(Drop)]
 pub struct LaidParts {
     all: Vec<PlacedPart>,
@@ -59,7 +59,7 @@ fn at_path(alloc: Global, part: &PlacedPart, path: &Path) -> Result<PlacedPart, 
     part.at(path.copy(alloc)?)
 }
 
-// Where the part of number i is to stand, if the first of these places from number k on is told of it.
+// The new place of the part of number i, if the first of these places from number k on is for it.
 fn taken(places: &mut [(usize, Option<Path>)], k: usize, i: usize) -> Option<Option<Path>>
     ensures { MatchOption result ((places.new ≡ places.old) × ((p : Placed) (ps : List Placed)
         → put_along i (drop k places.new) (p ∷ ps) ≡ p ∷ put_along (i + 1) (drop k places.new) ps))
@@ -85,7 +85,7 @@ fn move_down(parts: &mut [PlacedPart], at: usize, i: usize)
     }
 }
 
-// The part of number i goes to another path.
+// Moves the part of number i to another path.
 fn set_path(parts: &mut [PlacedPart], i: usize, path: Path)
     requires there { i < length parts.old }
     ensures put { (d : Placed) → parts.new ≡ slice_set parts.old i (put_to path (slice_index_or parts.old i d)) }
@@ -94,8 +94,8 @@ fn set_path(parts: &mut [PlacedPart], i: usize, path: Path)
     parts[i].put(path);
 }
 
-// One part more: it moves down to the number `at`, at its path or at another one, or it goes. Answers the next such
-// number, and that of the next place.
+// Takes one part more: moves it down to the number `at`, at its path or at another one, or drops it. Returns the next
+// such number, and the number of the next place.
 fn put_next(
     parts: &mut [PlacedPart],
     places: &mut [(usize, Option<Path>)],
@@ -124,7 +124,7 @@ fn put_next(
     }
 }
 
-// The parts of these numbers go to these places, or don't stay. Of the parts before the first one no memory is read.
+// Moves the parts of these numbers to these places, or drops them. Of the parts before the first one no memory is read.
 fn put_all(parts: &mut Vec<PlacedPart>, places: Vec<(usize, Option<Path>)>)
     ensures { parts.new.items ≡ put_along 0 places.items parts.old.items }
 {
@@ -146,7 +146,7 @@ fn is_front(part: &PlacedPart, path: &Path) -> bool
     path.steps().starts_with(part.path.steps())
 }
 
-// Of the parts those stay with whose path this one doesn't begin.
+// Drops the parts whose path this one begins with.
 fn drop_fronts(all: &mut Vec<PlacedPart>, path: &Path)
     ensures { all.new.items ≡ filter (λ p. not (begins_path p.path path.now)) all.old.items }
 {
@@ -202,7 +202,7 @@ impl LaidParts {
         !self.marked
     }
 
-    /// None of them stays.
+    /// Drops all of them.
     pub fn forget(&mut self)
         ensures { self.new ≡ [] }
     {
@@ -210,7 +210,7 @@ impl LaidParts {
         self.marked = false;
     }
 
-    /// Those stay with whose path this one doesn't begin.
+    /// Drops those whose path this one begins with.
     pub fn drop_fronts(&mut self, path: &Path)
         ensures { self.new ≡ filter (λ p. not (begins_path p.path path.now)) self.old }
     {
@@ -218,7 +218,8 @@ impl LaidParts {
         drop_fronts(&mut self.all, path);
     }
 
-    /// One more, with what is shown of this part, at this path. Nothing is laid out. For want of memory all stays.
+    /// Adds one more, with what is shown of this part, at this path. Nothing is laid out. When memory runs out, nothing
+    /// changes.
     pub fn add(&mut self, alloc: Global, part: &PlacedPart, path: &Path) -> Result<(), Memory>
         ensures added { OnOk result
             (map wide_part self.new ≡ map wide_part self.old ++ put_at path.now part.now ∷ []) }
@@ -230,8 +231,8 @@ impl LaidParts {
         Ok(())
     }
 
-    /// The parts of these numbers, which are in order, go to these places, or don't stay where there is none. Each
-    /// other one stays where it is. Nothing is laid out, nor copied, and it takes no memory.
+    /// Moves the parts of these numbers, which are in order, to these places. One without a place is dropped, and each
+    /// other one is unchanged. Nothing is laid out, nor copied, and it takes no memory.
     pub fn put(&mut self, places: Vec<(usize, Option<Path>)>)
         ensures { self.new ≡ put_along 0 places.items self.old }
     {

@@ -29,10 +29,11 @@ use tx_items::Attrs;
 use tx_units::Unit;
 use tx_walk::Part;
 
-/// Lays a unit out that comes to this at some moment and has these parts then, before which the attributes are these.
-/// Answers how many items were laid out: of a paragraph of the body that isn't over those of the parts that were
-/// evaluated anew, or weren't laid out for the attributes before them, and else all. Pages have 20 to 500 columns. The
-/// one error is want of memory: what was laid out before stays.
+/// Lays out a unit with this outcome at some moment, and with its parts then. The attributes before it are these.
+/// Returns how many items were laid out. Of a paragraph of the body that doesn't run out of steps or levels, these are
+/// the items of the parts that were evaluated anew, or weren't laid out for the attributes before them. Of another unit
+/// these are all items. Pages have 20 to 500 columns. The one error is out of memory: what was laid out before is then
+/// unchanged.
 pub fn lay_unit<L: Ledger>(
     alloc: Global,
     unit: &Unit,

@@ -1,5 +1,5 @@
-//! What is shown of a unit. A paragraph of the body is laid out by its parts, and what was laid out of a part before is
-//! used again where it still holds.
+//! What is shown of a unit. A paragraph of the body is laid out by its parts, and the former layout of a part is used
+//! again where it still holds.
 #![tactic(auto)]
 
 mod again;

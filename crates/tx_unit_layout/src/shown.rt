@@ -13,10 +13,10 @@ use tx_layout::Paginator;
 use tx_part_layout::{LineList, PlacedPart, lines_under_law, same_attrs};
 use tx_tree::Path;
 
-/// What is shown of a unit. But for its path, nothing in it depends on where the unit stands among others.
+/// What is shown of a unit. But for its path, nothing in it depends on where the unit is among others.
 #[derive(Drop)]
 pub struct Shown {
-    /// The path of a unit that stands on pages.
+    /// The path of a unit that is on pages.
     pub path: Option<Path>,
     /// The attributes for which it was laid out, or None where it isn't.
     pub laid: Option<Attrs>,
@@ -26,7 +26,7 @@ pub struct Shown {
     pub paragraphs: Vec<Paragraph>,
     /// The lines of these paragraphs.
     pub lines: LineList,
-    /// What is laid out of the parts of a paragraph of the body. It may stay where the unit isn't laid out.
+    /// The layouts of the parts of a paragraph of the body. There may be some where the unit isn't laid out.
     pub parts: LaidParts,
 }
 
@@ -44,7 +44,7 @@ fn lines_on(parts: &[PlacedPart]) -> u64
     last.above + last.laid.lines.all().len() as u64
 }
 
-// Tells the paginator the lines of parts. After want of memory nothing is said of what it was told.
+// Gives the paginator the lines of parts. When memory runs out, nothing is known of what it was given.
 fn tell_parts(parts: &[PlacedPart], paginator: &mut Paginator) -> Result<(), Memory>
     requires begun { (before : List Shape) × (height : ℕ) × HasTold before height paginator.old }
     requires few { lines_told paginator.old + length (placed_lines parts.now) < 2 ^ 32 }
@@ -85,7 +85,7 @@ impl Shown {
         self.parts.is_unmarked() && self.lines.is_unmarked()
     }
 
-    /// Tells the paginator its lines, behind those that it was told before.
+    /// Gives the paginator its lines, after those that it was given before.
     pub fn tell(&self, paginator: &mut Paginator) -> Result<(), Memory>
         requires begun { (before : List Shape) × (height : ℕ) × HasTold before height paginator.old }
         requires few { lines_told paginator.old + length (unit_view self.now).lines < 2 ^ 32 }

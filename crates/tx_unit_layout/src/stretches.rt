@@ -13,8 +13,8 @@ use tx_layout::Line;
 use tx_part_layout::PlacedPart;
 use tx_tree::Path;
 
-/// Paragraphs of a unit and their lines that tell their places from one path: those of a part, or those that the unit
-/// has besides, which tell them from the unit's tree.
+/// Paragraphs of a unit and their lines that give their places from one path: those of a part, or those that the unit
+/// has besides, which give them from the unit's tree.
 #[derive(Drop)]
 pub struct Stretch<'a> {
     pub part: Option<&'a Path>,
@@ -84,7 +84,7 @@ impl Shown {
         }
     }
 
-    /// The number of the stretch in which a line stands, and its number there.
+    /// The number of the stretch in which a line is, and its number there.
     pub fn line_in(&self, line: u64) -> (usize, usize)
         requires there { line < length (unit_view self.now).lines }
         requires below { AreBelow 0 self.now.parts }

@@ -24,7 +24,7 @@ use tx_part_layout::{LineList, item_count, lines_of};
 use tx_tree::Path;
 use tx_view_form::{short_law, weight_laws};
 
-/// A law: what a unit that comes to this shows weighs at most 242 for each unit of its size.
+/// A law: what a unit with this outcome shows weighs at most 242 for each unit of its size.
 pub fn outcome_weight_law(outcome: &Outcome)
     ensures { (a : Attrs) → weight_of (shown_paragraphs a (unit_value (wide_outcome outcome.now)))
         ≤ 242 * size_of (plain (unit_value (wide_outcome outcome.now))) }
@@ -81,7 +81,7 @@ fn show<L: Ledger>(
     })
 }
 
-/// Lays a unit with this value out whole, and answers how many items were laid out.
+/// Lays out a unit with this value whole, and returns how many items were laid out.
 pub(crate) fn lay_whole<L: Ledger>(
     alloc: Global,
     value: &Value,

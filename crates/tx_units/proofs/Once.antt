@@ -18,7 +18,7 @@ Names = List (List ℕ)
 abbrev is_other : List ℕ → List ℕ → Bool
 is_other m n = not (bytes_eq n m)
 
--- where n is m, it goes with it
+-- where n is m, it is removed with m
 goes : (m n : List ℕ) (ks : Names) → bytes_eq n m ≡ true
     → filter (is_other m) (put_name ks (Some n)) ≡ filter (is_other m) ks
 goes m n ks e = by (list_any (bytes_eq n) ks)
@@ -30,7 +30,7 @@ goes m n ks e = by (list_any (bytes_eq n) ks)
         ∙ ap (λ b. filter (is_other m) ks ++ cond (not b) (n ∷ []) []) e
         ∙ append-nil (filter (is_other m) ks)
 
--- where n is another name, it stays
+-- where n is another name, it isn't removed
 stays : (m n : List ℕ) (ks : Names) → bytes_eq n m ≡ false
     → filter (is_other m) (put_name ks (Some n)) ≡ put_name (filter (is_other m) ks) (Some n)
 stays m n ks e = by (list_any (bytes_eq n) ks) ∙ ap (λ b. if b then kept else kept ++ n ∷ []) (sym same_any)

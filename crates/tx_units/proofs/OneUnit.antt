@@ -138,7 +138,7 @@ body_at t c b k d e f g =
 
 -- ---- what changes
 
--- what is before the body stays, and unit j of the body has the tree x
+-- what is before the body is unchanged, and unit j of the body has the tree x
 pub record ChangesAt (t u : WideTree) (j : ℕ) (x : WideTree) : Type 0 where
   pub front : (styles : List Buffer) → front_units u styles ≡ front_units t styles
   pub units_are : body_units u ≡ units_with j x (body_units t)

@@ -12,7 +12,7 @@ use Rattle.tx_tree.specs.WideTree.{depth_of, deepest, arity_of, widest, count, t
 use Rattle.tx_tree.proofs.Children.{count-forest}
 use Rattle.tx_units.specs.Documents.{is_document, section, entries}
 
--- what tells that a node's faults don't come
+-- the rules that rule out a node's faults
 pub ruleset fault_rules = (count-forest)
 
 -- s is at least n smaller than t, n less deep, and no wider

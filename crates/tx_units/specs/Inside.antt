@@ -18,7 +18,7 @@ is_part (suc zero) t = is_body t || (is_labelled (codes "style") t || is_labelle
 is_part (suc (suc zero)) t = is_document t
 is_part (suc (suc (suc depth))) t = false
 
--- whether x can take the place of the paragraph t at this path, and all other units stay
+-- whether x can take the place of the paragraph t at this path, and all other units are unchanged
 abbrev pub leaves_others : List ℕ → WideTree → WideTree → Bool
 leaves_others p t x = not (is_part (length p) t) && not (is_part (length p) x)
 
@@ -33,8 +33,8 @@ abbrev pub AreSameBut : List ℕ → WideTree → WideTree → Type 0
 AreSameBut [] t u = Unit {0}
 AreSameBut (i ∷ p) t u = (c d : WideTree) × HasOtherChild i c d t u × AreSameBut p c d
 
--- Where x takes the place of the paragraph that is unit i, and this leaves the others, that unit alone changes: t is
--- the document then.
+-- Where x takes the place of the paragraph that is unit i, and this leaves the others, that unit alone changes. The
+-- document with x is t.
 abbrev pub ChangesOne : List Buffer → ℕ → WideTree → WideTree → Type 0
 ChangesOne buffers i t x = 1 ≤ length buffers → (u : DocUnit) (p : List ℕ) → slice_get (units buffers) i ≡ Some u
     → u.path ≡ Some p → leaves_others p u.tagged.tree x ≡ true → AreSameBut p (document_of buffers) t

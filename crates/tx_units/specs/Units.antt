@@ -1,4 +1,4 @@
--- The units of buffers: the trees that are evaluated one after the other.
+-- The units of buffers: the trees that are evaluated in order.
 use Rattle.std.specs.Prelude.{ℕ, zero, suc, ◌+◌, List, [], ◌∷◌, ◌++◌, map, drop, codes, if◌then◌else◌, Some, None}
 use Rattle.std.specs.List.{flat_map, enumerate_from, sum_by}
 use Rattle.std.specs.Option.{option_map_or}
@@ -33,7 +33,7 @@ base_units = map (λ row. unit Base (assign_tag (leaf row.0) row.1)) base_style
 abbrev pub loaded_units : ℕ → WideTree → List DocUnit
 loaded_units k t = map (unit (Style k)) (paragraphs t)
 
--- the error that stands for a style that isn't loaded
+-- the error in place of a style that isn't loaded
 abbrev pub absent_unit : List ℕ → DocUnit
 absent_unit name = unit Absent (tag (codes "error") (leaf (codes "undefined-style") ∷ leaf name ∷ []))
 
@@ -49,7 +49,7 @@ style_units document styles = flat_map (named_units styles) (style_names documen
 
 -- ---- the initial environment
 
--- `(associate X V)` sets X to V as it stands; no other tree is an entry
+-- `(associate X V)` sets X to V, unevaluated; no other tree is an entry
 abbrev pub entry_units : WideTree → List DocUnit
 entry_units (node label (cons x (cons v nil))) =
     if bytes_eq label (codes "associate") then unit Initial (assign_tag x (tag (codes "quote") (v ∷ []))) ∷ [] else []

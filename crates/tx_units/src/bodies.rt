@@ -10,7 +10,7 @@ use tx_base::Memory;
 use tx_doc::body;
 use tx_tree::{Path, Tree};
 
-// Adds the paragraphs of a body that is a `document` and stands at this path.
+// Adds the paragraphs of a body that is a `document` at this path.
 fn add_paragraphs(
     alloc: Global,
     units: &mut Vec<Unit>,

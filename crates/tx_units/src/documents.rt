@@ -43,7 +43,7 @@ fn section<'a>(t: &'a Tree, label: &[u8]) -> Option<&'a Tree>
     }
 }
 
-// The trees that stand for names in a `style`: those of them that are texts are names.
+// The trees of a `style` that may be names: those of them that are texts are names.
 fn name_trees(t: &Tree) -> &[Tree]
     ensures { filter_map text_of result.now ≡ names_in t.now }
 {

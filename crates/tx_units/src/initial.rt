@@ -48,7 +48,7 @@ fn association(entry: &Tree) -> Option<(&Tree, &Tree)>
     }
 }
 
-// The unit that sets the name to the value as it stands.
+// The unit that sets the name to the value, unevaluated.
 fn initial_unit<L: Ledger>(
     alloc: Global,
     labels: &Labels,

@@ -17,9 +17,10 @@ fn is_part(depth: usize, t: &Tree) -> bool
     }
 }
 
-/// Whether `new` can take the place of `old`, the paragraph at this path, so that all other units stay, as `inside_law`
-/// says. It can where neither has a label by which a part of the document is found there: at the root and two deep,
-/// where the body may are, `document`; as a child of the root `body`, `style` and `initial`; deeper none.
+/// Whether `new` can take the place of `old`, the paragraph at this path, and all other units are unchanged, as
+/// `inside_law` says. It can where neither has a label by which a part of the document is found there. At the root and
+/// two deep, where the body may be, this label is `document`. For a child of the root, it is `body`, `style` or
+/// `initial`. Deeper there is none.
 pub fn leaves_others(path: &Path, old: &Tree, new: &Tree) -> bool
     ensures { result ≡ leaves_others path.now old.now new.now }
 {

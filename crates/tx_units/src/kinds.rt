@@ -23,7 +23,7 @@ pub enum UnitKind {
 }
 
 /// A tree that is evaluated by itself, after the units before it. It needs no memory of its own: its tree is shared,
-/// and a path of up to six numbers is held in place.
+/// and a path of up to six numbers is stored inline.
 #[derive(Drop)]
 pub struct Unit {
     /// Where it comes from.
@@ -60,7 +60,7 @@ impl Unit {
         }
     }
 
-    /// The same unit, which shares its tree.
+    /// A copy of the unit, which shares its tree.
     pub fn share(&self, alloc: Global) -> Result<Unit, Memory>
         ensures { IfOk result (λ u. u ≡ self.now) }
     {
@@ -74,7 +74,7 @@ impl Unit {
         })
     }
 
-    /// Its path once more, if it has one.
+    /// A copy of its path, if it has one.
     pub fn copy_path(&self, alloc: Global) -> Result<Option<Path>, Memory>
         ensures { IfOk result (λ p. p ≡ self.now.path) }
     {

@@ -35,7 +35,7 @@ pub fn body_laws()
 {}
 
 /// A law: where another tree takes the place of a paragraph of the document, as `leaves_others` allows, the unit of
-/// this paragraph has the other tree, and all other units stay as they are, the paths included.
+/// this paragraph has the other tree, and all other units are unchanged, with their paths.
 pub fn inside_law()
     ensures { (buffers : List Named) (i : ℕ) (t x : WideTree) → ChangesOne buffers i t x }
 {}

@@ -1,4 +1,4 @@
-//! The units of a document: the trees that are evaluated one after the other to show it.
+//! The units of a document: the trees that are evaluated in order to show it.
 //!
 //! They are, in this order, those of the base style, those of the styles that the document names, those of its initial
 //! environment, and the paragraphs of its body. Contracts see units as records, and the whole list is `units` of

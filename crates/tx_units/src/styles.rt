@@ -22,7 +22,7 @@ fn add_loaded(alloc: Global, units: &mut Vec<Unit>, k: u32, t: &Tree) -> Result<
     Ok(())
 }
 
-// The error that stands for a style that isn't loaded.
+// The error in place of a style that isn't loaded.
 fn absent_unit<L: Ledger>(alloc: Global, name: &Text, steps: &mut Steps<L>) -> Result<Unit, Memory>
     ensures ok { IfOk result (λ u. u ≡ absent_unit name.now) }
     ensures counted { steps.new ≤ steps.old + 1 }

@@ -35,7 +35,7 @@ fn leaf_of(alloc: Global, word: &[u8]) -> Option<Tree> {
     Tree::leaf(alloc, name_of(alloc, word)?).ok()
 }
 
-// One change. The scopes stay, whatever comes.
+// One change. The scopes are unchanged in any case.
 fn change(alloc: Global, env: &mut Env, word: &[u8]) -> Option<()>
     ensures { env.new.scopes ≡ env.old.scopes }
 {
@@ -168,7 +168,7 @@ fn numbered(alloc: Global, number: u32) -> Option<Text> {
     name_of(alloc, word.as_bytes())
 }
 
-// Sets the name of one number to another number. The scopes stay, whatever comes.
+// Sets the name of one number to another number. The scopes are unchanged in any case.
 fn set_name(alloc: Global, env: &mut Env, number: u32, value: u32) -> Option<()>
     ensures { env.new.scopes ≡ env.old.scopes }
 {
@@ -187,7 +187,7 @@ fn set_names(alloc: Global, env: &mut Env, count: u32, from: u32) -> Option<()>
     Some(())
 }
 
-// Whether each of the first names has its number, counted on from `from`, and the name behind them is unset.
+// Whether each of the first names has its number, counted on from `from`, and the name after them is unset.
 fn have_names(alloc: Global, env: &Env, count: u32, from: u32) -> Option<bool>
     requires { count + from < 2 ^ 32 }
 {

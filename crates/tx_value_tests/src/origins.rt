@@ -9,7 +9,7 @@ use tx_origin::{At, Ip, Spot, Tagged, Value};
 use tx_scm::read;
 use tx_tree::{Label, Path, Place, Text, Tree};
 
-// A tree, where it stands, a way down, and the origin of what the value of the tree has there. `-` is no origin.
+// A tree, where it is, a way down, and the origin of what the value of the tree has there. `-` is no origin.
 const ORIGINS: &[(&str, &str, &str, &str)] = &[
     ("\"abc\"", "/", "/", "/"),
     ("\"abc\"", "-", "/", "-"),

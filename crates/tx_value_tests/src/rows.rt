@@ -1,4 +1,4 @@
-// The helper of tables, on which tests of other crates stand.
+// The helper of tables, which tests of other crates use.
 use std::alloc::Global;
 use std::marker::Brand;
 use std::sync::ledger::{Blank, Ledger};

@@ -134,7 +134,7 @@ const PLANS: &[PlanRow] = &[
     },
 ];
 
-// Rows of numbers that are told.
+// The rows of numbers that the text gives.
 fn widths_of(alloc: Global, told: &str) -> Option<Vec<WidthRow>> {
     let mut rows = Vec::new(alloc);
     for part in told.split('/') {
@@ -147,7 +147,7 @@ fn widths_of(alloc: Global, told: &str) -> Option<Vec<WidthRow>> {
     Some(rows)
 }
 
-// Rows of sides that are told.
+// The rows of sides that the text gives.
 fn sides_of(alloc: Global, told: &str) -> Option<Vec<SideRow>> {
     let mut rows = Vec::new(alloc);
     for part in told.split('/') {
@@ -165,7 +165,7 @@ fn sides_of(alloc: Global, told: &str) -> Option<Vec<SideRow>> {
     Some(rows)
 }
 
-// Whether these rows of numbers are the ones that are told.
+// Whether these rows of numbers are the ones that the text gives.
 fn are_widths(alloc: Global, rows: &[WidthRow], told: &str) -> Option<bool> {
     let want = widths_of(alloc, told)?;
     if want.len() != rows.len() {

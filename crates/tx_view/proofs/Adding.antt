@@ -1,4 +1,4 @@
--- What is laid out of parts that have moved is put to their new units, part by part.
+-- The lines of parts that have moved are put into their new units, part by part.
 use Rattle.std.proofs.Common.{◌≡◌, ℕ, zero, suc, ◌+◌, ◌<◌, ◌≤◌, Bool, true, false, List, [], ◌∷◌, ◌++◌, length, map}
 use Rattle.std.proofs.Common.{slice_index_or, slice_set, Option, Some, None, refl, ap, sym, subst, ◌∙◌, arith}
 use Rattle.std.proofs.lemmas.List.{append-nil, take_more, map-append, take_all, drop_all, length-map}
@@ -59,7 +59,7 @@ none_more old j moves m (u ∷ us) (x ∷ xs) none h = (
       (λ n l. ap (λ k. wide_in_unit old k m) (omega arith) ∙ none (suc n) (omega (arith, l))) h.1,
 )
 
--- nothing is laid out of the part
+-- the part has no lines
 pub no_part : (old : PlacedLists) (j : ℕ) (m : Move) → wide_moved old m ≡ None → wide_in_unit old j m ≡ None
 no_part old j m none = by (m.to == j)
   where
@@ -161,7 +161,7 @@ placed_unit xs ps i off =
     at_front (map (λ (x : Shown). x.parts) xs) ps i
     (λ e. off (e ∙ length-map xs (λ (x : Shown). x.parts))) ∙ slice_get-map (λ (x : Shown). x.parts) xs i
 
--- ---- whether something is laid out of each part
+-- ---- whether each part has lines
 
 abbrev pub is_laid : PlacedLists → PartMove → Bool
 is_laid old m = is_some (wide_moved old (seen_move m))
@@ -193,7 +193,7 @@ seen_more ms i m inside is =
     ap (map seen_move) (take_more ms i m inside) ∙ map-append seen_move (take i ms) (get_or ms i m ∷ [])
     ∙ ap (λ n. map seen_move (take i ms) ++ seen_move n ∷ []) (sym is)
 
--- where something is laid out of each part, all go, and else none
+-- where each part has lines, all move, and else none
 pub all_go : (old : PlacedLists) (moves : List Move) (b : Bool) → b ≡ all_wide old moves → b ≡ true
     → going old moves ≡ moves
 all_go old moves b is on = ap (λ c. if c then moves else []) (sym is ∙ on)

@@ -239,7 +239,7 @@ one_laid m (k ∷ es) (l ∷ pss) (g ∷ fss) (suc i) e ks fs (x ∷ xs) d a fre
       one_laid next es pss fss i e ks fs xs d a one.1 three.1 at parts flags none two.1,
     )
 
--- the same of what is kept of it
+-- the items to lay out, of the unit that is cached at this number
 pub takes_alone : {b : Bridged} {i : ℕ} {e : Entry} {ks : KeptParts} {fs : List Bool} → IsUnit b i e ks fs
     → (xs : List Shown) (d : Shown) (a : Attrs) → b.kept ≡ fresh_from beginning (units_of b.kept)
     → b.parts ≡ fresh_parts_from beginning (units_of b.kept) → slice_get (laid_in xs) i ≡ Some None
@@ -251,7 +251,7 @@ takes_alone {b} {i} {e} {ks} {fs} at xs d a fresh anew none is =
 
 -- ---- an outcome is small
 
--- at some moment the unit comes to what is kept of it
+-- at some moment the unit evaluates to what is cached of it
 at_moment : (m : Moment) (kept : Kept) (pss : List KeptParts) (i : ℕ) (e : Entry) (ks : KeptParts)
     → kept ≡ fresh_from m (units_of kept) → pss ≡ fresh_parts_from m (units_of kept) → slice_get kept i ≡ Some e
     → slice_get pss i ≡ Some ks → (n : Moment) × (e.trace ≡ outcome_of n e.unit) × (ks ≡ fresh_parts n e.unit)

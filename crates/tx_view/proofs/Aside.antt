@@ -1,4 +1,4 @@
--- Parts that stand in no unit: those that stay where one unit changes alone, and what is kept of them.
+-- Parts that are in no unit: those that are unchanged where one unit changes alone, and what is cached of them.
 use Rattle.std.proofs.Common.{◌≡◌, ℕ, zero, suc, ◌<◌, List, [], ◌∷◌, length, map, slice_set, Bool, true, false, Option}
 use Rattle.std.proofs.Common.{Some, None, ◌⊎◌, inl, inr, refl, ap, sym, subst, ◌∙◌, arith}
 use Rattle.std.proofs.lemmas.List.Elements.{All-filter}
@@ -27,7 +27,7 @@ use Rattle.tx_unit_layout.specs.LaidUnits.{AreOf, AreLaidParts}
 use Rattle.tx_view.specs.Laid.{HasShortPlaces, placed_beside}
 use Rattle.tx_view.proofs.OfParts.{AreDistinct, no_parts, paths_laid}
 
--- ---- those that stay
+-- ---- those that are unchanged
 
 module _ (f : List ℕ → Bool) where
   kept_by : (ss : List Stray) → kept_strays (filter (λ s. f s.kept.path) ss) ≡ filter (λ k. f k.path) (kept_strays ss)
@@ -100,7 +100,7 @@ pub kept_beside : (i : ℕ) (us : List DocUnit) (ss : List Stray)
 unfolding StraysBeside
 kept_beside i us ss = kept_by (is_beside (path_at i us)) ss
 
--- ---- what stays laid out of them
+-- ---- their lines that are unchanged
 
 all_pass : (ps : List PlacedPart) → filter (λ p. true) ps ≡ ps
 all_pass [] = refl
@@ -127,14 +127,14 @@ pub placed_there : (i : ℕ) (kept : Kept) (u : DocUnit) (path : List ℕ) (ps q
     → qs ≡ filter (λ p. not (begins_path p.path path)) ps → qs ≡ placed_beside i (units_of kept) ps
 placed_there i kept u path ps qs there is left = left ∙ sym (placed_by i kept (Some u) (Some path) ps there is)
 
--- ---- what is kept of them
+-- ---- what is cached of them
 
 pub all_hold_aside : (t : WideTree) (us : List DocUnit) (ss : List Stray) → AreStrays us ss → StandAside t ss
     → StoredAllHold t (kept_strays ss)
 all_hold_aside t us ss are stand =
     record { hold = strays_hold t ss are.hold stand; distinct = are.distinct }
 
--- ---- where they stand behind an edit
+-- ---- where they are after an edit
 
 -- another buffer has another tree
 document_beside : (b : Buffer) (bs : List Buffer) (k : ℕ) (t : WideTree)

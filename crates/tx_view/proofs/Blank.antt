@@ -1,4 +1,4 @@
--- Units of which nothing is laid out, and the buffers that they are of.
+-- Units without a layout, and the buffers that they are of.
 use Rattle.std.proofs.Common.{◌≡◌, ℕ, suc, ◌+◌, ◌<◌, List, [], ◌∷◌, ◌++◌, length, take, map, get_or, Option, Some, None}
 use Rattle.std.proofs.Common.{refl, ap, sym, subst, ◌∙◌}
 use Rattle.std.proofs.Common.{slice_set, slice_index_or}
@@ -62,7 +62,7 @@ pub tree_at : (buffers : List Buffer) (k : ℕ) (d : Buffer) → k < length buff
 tree_at buffers k d inside =
     ap (λ o. option_map_or (λ (b : Buffer). b.tree) o (leaf [])) (slice_get-get_or buffers k d inside)
 
--- ---- where nothing is kept
+-- ---- where nothing is cached
 
 pub empty_parts_is : (us : List DocUnit) → EmptyParts us ≡ map (λ u. []) us
 unfolding EmptyParts

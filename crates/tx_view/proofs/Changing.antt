@@ -30,7 +30,7 @@ with_children : (t w : WideTree) (i : ℕ) → children_of (with_child_at t i w)
 with_children (leaf text) w i = refl
 with_children (node l ts) w i = trees_forest (set (trees ts) i w)
 
--- what stands below a path is replaced, and all beside the path stays
+-- what is below a path is replaced, and all beside the path is unchanged
 same_beside : (p rest : List ℕ) (t x v : WideTree) → subtree t (p ++ rest) ≡ Some x
     → AreSameBut p t (replaced t (p ++ rest) v)
 same_beside [] rest t x v e = tt
@@ -99,7 +99,7 @@ all_beside [] m t u p inside made =
 all_beside (n ∷ ms) m t u p inside made =
     beside_step m (n ∷ ms) t u p inside (λ v h rest more. both_beside p t v u h (all_beside ms n v u p rest more)) made
 
--- at least one modification, all of them inside what stands at the path
+-- at least one modification, all of them inside the subtree at the path
 pub stays_beside : (ms : List Mod) (t u : WideTree) (p : List ℕ) → is_gone p ms ≡ true → are_within p ms ≡ true
     → changed_by_all ms t ≡ Some u → AreSameBut p t u
 stays_beside [] t u p some inside made = absurd cc

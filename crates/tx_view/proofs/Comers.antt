@@ -1,4 +1,4 @@
--- What is laid out of parts that have moved to other units, as it stands there.
+-- The lines of parts that have moved to other units, as they are there.
 use Rattle.std.proofs.Common.{◌≡◌, ℕ, zero, suc, ◌+◌, Bool, true, false, List, [], ◌∷◌, ◌++◌, length, map, Option}
 use Rattle.std.proofs.Common.{Some, None, refl, ap, sym, subst, ◌∙◌, arith, ◌⊎◌, inl, inr}
 use Rattle.std.proofs.lemmas.Bool.{and_parts}
@@ -43,9 +43,9 @@ use Rattle.tx_view.proofs.OfParts.{AreDistinct, no_parts, none_wide, paths_laid,
 use Rattle.tx_view.proofs.ShortParts.{each_part_short}
 use Rattle.tx_view.proofs.LaidByNumber.{moved_by_number, all_by_number, in_unit_by_number, arrived_by_number, laid_with}
 
--- ---- what is told of a move
+-- ---- what is known of a move
 
--- the part that has moved was kept there, and its new unit has a path
+-- the part that has moved was cached there, and its new unit has a path
 pub record IsMoveOf (pss : List KeptParts) (vs : List DocUnit) (m : Move) : Type 0 where
   pub kept : KeptParts
   pub was : Stored
@@ -67,7 +67,7 @@ rest_placed v place r e = by v.path e
     by None f = cc
     by (Some p) f = refl
 
--- the unit above a place, or the number behind the last one
+-- the number of the unit above a place, or the one after the last
 above_at : (j : ℕ) (vs : List DocUnit) (place : List ℕ)
     → (k : ℕ) × ((unit_above j vs place).0 ≡ j + k) × ((k ≡ length vs) ⊎ IsThere vs k)
 above_at j [] place = (0, omega arith, inl refl)
@@ -139,7 +139,7 @@ unit_are ms t pss vs i u ks at = by (is_vacant (through ms t u.path) vs) u.path
     by true None = tt
     by false o = tt
 
--- of parts of units, behind which strays are kept
+-- the moves of parts of units, where strays come last in the cache
 from_are : (ms : List Mod) (t : WideTree) (pss : List KeptParts) (strays : KeptParts) (vs : List DocUnit) (i : ℕ)
     (us : List DocUnit) (qss : List KeptParts) → AreFrom pss i (qss ++ strays ∷ [])
     → AreMovesOf pss vs (moves_from ms t vs i us qss)
@@ -150,7 +150,7 @@ from_are ms t pss strays vs i (u ∷ us) (ks ∷ qss) from =
     (unit_are ms t pss vs i u ks (from 0 i (omega arith)))
     (from_are ms t pss strays vs (i + 1) us qss (λ n m e. from (suc n) m (omega (arith, e))))
 
--- of strays that stay where they are
+-- the moves of strays that don't change their place
 aside_are : (pss : List KeptParts) (vs : List DocUnit) (i : ℕ) (all : KeptParts) (k : ℕ) (ks : KeptParts)
     → slice_get pss i ≡ Some all → AreFrom all k ks → AreMovesOf pss vs (moves_aside vs i k ks)
 aside_are pss vs i all k [] at from = tt
@@ -174,7 +174,7 @@ aside_are pss vs i all k (s ∷ ks) at from =
       rest,
     )
 
--- what is kept of the parts of each unit, and last of strays
+-- what is cached of the parts of each unit, and last of strays
 abbrev pub all_kept : List KeptParts → KeptParts → List KeptParts
 all_kept pss strays = pss ++ strays ∷ []
 
@@ -203,7 +203,7 @@ going_are pss vs old moves h = by (all_wide old moves)
     by true = h
     by false = tt
 
--- ---- what is laid out of the parts
+-- ---- the lines of the parts
 
 at_number : {A : Type 0} (P : A → Type 0) (xs : List A) (i : ℕ) (x : A) → AllByRecursion P xs
     → slice_get xs i ≡ Some x → P x
@@ -240,7 +240,7 @@ comes_from old m w e =
     let parts = followed (λ (ps : List PlacedPart). slice_get ps m.number) (slice_get old m.from) part.0 part.1 in
     record { parts = parts.0; part = part.0; there = parts.1; at = parts.2; is = sym part.2 }
 
--- what holds of all that was laid out of parts holds of it
+-- what holds of the lines of all parts holds of its lines
 holds_moved : (P : LaidPart → Type 0) (old : PlacedLists) (m : Move) (w : WidePart) → AllParts P old
     → wide_moved old m ≡ Some w → P w.laid
 holds_moved P old m w h e =
@@ -271,7 +271,7 @@ all_come P old j (m ∷ moves) qs h e =
         let later : map wide_part rs ≡ wide_arrived old moves j = cc in
         (subst P (ap (λ (v : WidePart). v.laid) (sym first)) (holds_moved P old m w h is), rest rs later)
 
--- ---- it is of what is kept of them
+-- ---- its lines are those of its cached trace
 
 record IsOfWide (k : Stored) (w : WidePart) : Type 0 where
   path : w.path ≡ k.path
@@ -289,7 +289,7 @@ of_number (l ∷ ks) (q ∷ ps) zero k p of at there =
     (subst (λ (s : Stored). IsLaidOfKept s q) (same_Some l k at) of.0)
 of_number (l ∷ ks) (q ∷ ps) (suc i) k p of at there = of_number ks ps i k p of.1 at there
 
--- what is laid out of parts is of what is kept of them, unit by unit
+-- the lines of parts are those of their cached traces, unit by unit
 abbrev pub AreAllLaid : ℕ → List KeptParts → PlacedLists → Type 0
 AreAllLaid width [] [] = Unit {0}
 AreAllLaid width [] (ps ∷ pss) = ⊥
@@ -306,7 +306,7 @@ laid_of width (ls ∷ kss) (qs ∷ pss) zero ks ps laid kept at =
     (subst (λ (js : KeptParts). AreLaidParts width js qs) (same_Some ls ks kept) laid.0)
 laid_of width (ls ∷ kss) (qs ∷ pss) (suc i) ks ps laid kept at = laid_of width kss pss i ks ps laid.1 kept at
 
--- units, and strays behind them
+-- units, and strays after them
 pub all_laid_with : (width : ℕ) (es : Kept) (pss : List KeptParts) (xs : List Shown) (ks : KeptParts)
     (ps : List PlacedPart) → AreLaid width es pss xs → AreLaidParts width ks ps
     → AreAllLaid width (all_kept pss ks) (placed_in xs ps)
@@ -397,7 +397,7 @@ arrived_laid width pss old vs j moves qs laid are e apart = by (all_wide old mov
     by false wide f =
         subst (AreLaidParts width (arrived moves j)) (sym (none_wide qs f)) (no_parts width (arrived moves j))
 
--- ---- where it is told, and for which attributes
+-- ---- where its layout is listed, and for which attributes
 
 -- the places of all of them
 abbrev pub ats_of : PlacedLists → List (List LaidAt)
@@ -466,7 +466,7 @@ arrived_ats old j moves =
     by true = places_by old j moves
     by false = refl
 
--- ---- no part comes to a unit without a path
+-- ---- no part moves to a unit without a path
 
 pub none_comes : (pss : List KeptParts) (vs : List DocUnit) (old : PlacedLists) (j : ℕ) (v : DocUnit)
     (moves : List Move) → AreMovesOf pss vs moves → slice_get vs j ≡ Some v → v.path ≡ None

@@ -1,4 +1,4 @@
--- Items and lines that stand deeper by a path: what covers a column stays.
+-- Items and lines that are deeper by a path: what covers a column is unchanged.
 use Rattle.std.proofs.Common.{◌≡◌, ℕ, ◌+◌, ◌<◌, List, [], ◌∷◌, ◌++◌, length, map, take, drop, get_or, refl, sym, ap}
 use Rattle.std.proofs.Common.{ap₂, ◌∙◌, subst}
 use Rattle.std.specs.Prelude.{Option, Some, None, option_and_then, slice_get, nat_le, nat_lt, Bool, true, false}
@@ -98,7 +98,7 @@ module _ (path : List ℕ) (above below : List Line) (b : List ℕ) (l : Line) (
       place_is ∙ ap (λ q. place_at path above b l.items below q (item_number l c)) (sym e ∙ f)
       ∙ ap₂ (λ js k. place_at path above b js below None k) (sym same) (sym number)
 
--- the stretch and the line that stand there
+-- the stretch and the line at these numbers
 pub the_line : (ss : List WideStretch) (k i : ℕ) (w s : WideStretch) (line d : Line) (F : List ℕ → Line → Type 0)
     → slice_get ss k ≡ Some w → slice_get ss k ≡ Some s → slice_get s.lines i ≡ Some line
     → F w.part (get_or w.lines i d) → F s.part line
@@ -107,7 +107,7 @@ the_line ss k i w s line d F e f g h =
     subst (F s.part) (get_or_from_slice_get s.lines i line d g)
     (subst (λ (t : WideStretch). F t.part (get_or t.lines i d)) same h)
 
--- so many lines has the stretch that stands there
+-- the stretch at this number has so many lines
 pub in_stretch : (ss : List WideStretch) (k i : ℕ) (w : WideStretch) → slice_get ss k ≡ Some w
     → ((s : WideStretch) × (slice_get ss k ≡ Some s) × (i < length s.lines)) → i < length w.lines
 in_stretch ss k i w e h =

@@ -3,7 +3,7 @@ use Rattle.std.specs.Prelude.{OnOk, OnErr, IfOk}
 use Rattle.std.specs.declared.result.Result.{Result}
 use Rattle.std.specs.declared.result.Result.TheVariants.{Ok, Err}
 
--- what holds behind either end holds
+-- what holds after either end holds
 pub on_either : {T E P Q R : Type 0} (r : Result T E) → (P → R) → (Q → R) → OnOk r P → OnErr r Q → R
 on_either (Ok x) f g h k = f h
 on_either (Err e) f g h k = g k

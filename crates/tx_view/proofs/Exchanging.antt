@@ -126,7 +126,7 @@ exchanged_units bs buffer i ms t x us law some h of made =
     (stays_beside ms (document_of bs) t own.path split.0 split.1 made_of) own.there
     ∙ ap (units_with i x) (sym of)
 
--- ---- what stays of them
+-- ---- what is unchanged of them
 
 paths_with : (i : ℕ) (x : WideTree) (us : List DocUnit) → map (λ u. u.path) (units_with i x us) ≡ map (λ u. u.path) us
 paths_with i x [] = refl
@@ -138,7 +138,7 @@ many_with i x [] = refl
 many_with zero x (u ∷ us) = refl
 many_with (suc i) x (u ∷ us) = ap suc (many_with i x us)
 
--- what is shown can stay in place
+-- what is shown can be unchanged in place
 pub target_with : (i : ℕ) (silent : Bool) (ps : ToldPlaces) (x : WideTree) (us vs : List DocUnit)
     (ss : List (Option ℕ)) → vs ≡ units_with i x us → ss ≡ numbers_but i 0 (length us)
     → IsTarget us vs ss (InPlace i silent ps)
@@ -188,7 +188,7 @@ same_with i n x us vs ss is numbers l m u v at there number =
     (own ∙ ap (λ k. Some (Some k)) (let now : l ≡ 0 + m = omega (arith, same) in now)) in
     (ap (λ (w : DocUnit). w.tagged.tree) e, ap (λ (w : DocUnit). is_some w.path) e)
 
--- what is kept, and what is shown, is as it would be behind any edit
+-- what is cached, and what is shown, is as it would be after any edit
 pub record IsInPlace (buffer i : ℕ) (silent : Bool) (ps : ToldPlaces) (ms : List Mod) (t : WideTree)
     (kept new : Kept) (ss : List (Option ℕ)) (vs : List DocUnit) : Type 0 where
   pub target : IsTarget (units_of kept) vs ss (InPlace i silent ps)
@@ -217,7 +217,7 @@ in_place buffer i silent ps ms t before x kept new ss vs first at now carried so
       units_are = own ∙ sym now;
     }
 
--- so it is where `carry_in_place` was called for the unit that is exchanged
+-- it is in place where `carry_in_place` was called for the unit that is exchanged
 pub carried_at : (bs after : List Buffer) (buffer i : ℕ) (silent : Bool) (ps : ToldPlaces) (ms : List Mod)
     (d : Buffer) (t x : WideTree) (kept new : Kept) (ss : List (Option ℕ)) → ChangesOne bs i t x → 1 ≤ length bs
     → buffer < length bs → IsExchanged i buffer ms t x (units_of kept) → units_of kept ≡ units bs

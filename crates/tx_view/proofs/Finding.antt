@@ -46,7 +46,7 @@ last_two ms ns = last_append None ms ns ∙ last_from (last_of ms) ns
 
 -- ---- marks of lists
 
--- the marks of items, of lines and of paragraphs that stand under a path, and those of stretches
+-- the marks of items, of lines and of paragraphs under a path, and those of stretches
 abbrev pub marks_under : List ℕ → List Item → List Mark
 marks_under b xs = marks_of (map (item_under b) xs)
 
@@ -133,7 +133,7 @@ last_item b x = last_one (mark_of (item_under b x))
 
 -- ---- what the walks find
 
--- the first of a list, or else the first behind it
+-- the first of a list, or else the first after it
 pub first_at : {X : Type 0} (M : List X → List Mark) → AreJoined M → (xs : List X) (i : ℕ) (x : X) (o : Option Mark)
     → i < length xs → x ≡ get_or xs i x → o ≡ first_of (M (x ∷ []))
     → first_of (M (drop i xs)) ≡ or_else o (first_of (M (drop (i + 1) xs)))

@@ -1,4 +1,4 @@
--- What was laid out of units is dropped.
+-- The layout of units is dropped.
 use Rattle.std.proofs.Common.{◌≡◌, ℕ, zero, suc, ◌+◌, ◌<◌, ◌≤◌, List, [], ◌∷◌, ◌++◌, length, take, drop, map, slice_set}
 use Rattle.std.proofs.Common.{slice_index_or, Bool, true, false, refl, ap, sym, ◌∙◌, arith}
 use Rattle.std.proofs.lemmas.List.{drop_more, drop-drop, drop-set-lt, append_assoc, append-nil, take_more_set}
@@ -54,7 +54,7 @@ without_end fs now i past =
     nothing [] = refl
     nothing (g ∷ gs) = refl
 
--- ---- what stays readable
+-- ---- what remains readable
 
 nothing_behind : {A : Type 0} (xs ys : List A) → xs ++ ys ≡ [] → ys ≡ []
 nothing_behind [] ys e = e
@@ -108,7 +108,7 @@ pub readable_left : (xs : List Shown) → AllReadable xs → AllReadable (withou
 readable_left xs h =
     All-from_recursion IsReadable (without_parts xs) (readable_by xs (recursion_from_All IsReadable xs h))
 
--- where nothing is laid out of parts, all stays
+-- where parts have no lines, nothing changes
 pub all_stay : (xs : List Shown) → without_parts (map dropped xs) ≡ map dropped xs
 all_stay [] = refl
 all_stay (x ∷ xs) = ap (λ ys. dropped x ∷ ys) (all_stay xs)

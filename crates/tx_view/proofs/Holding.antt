@@ -1,4 +1,4 @@
--- What is kept is of the units of the buffers.
+-- What is cached is of the units of the buffers.
 use Rattle.std.proofs.Common.{◌≡◌, map, sym, ◌∙◌, subst}
 use Rattle.std.proofs.lemmas.List.{length-map}
 use Rattle.tx_doc.specs.Buffers.{document_of}

@@ -1,4 +1,4 @@
--- What is laid out of units, and of their parts, stays theirs.
+-- The lines of units, and of their parts, remain theirs.
 use Rattle.std.proofs.Common.{◌≡◌, ℕ, zero, suc, List, [], ◌∷◌, ◌++◌, length, take, drop, map, Bool, true, false}
 use Rattle.std.proofs.Common.{Some, inl, refl, ap, sym, subst, ◌∙◌, arith}
 use Rattle.std.proofs.lemmas.List.{length-map}
@@ -28,11 +28,11 @@ use Rattle.tx_view.specs.Stores.{attributes_from, laid_parts_from}
 use Rattle.tx_view.specs.Units.{IsBelow}
 use Rattle.tx_view.proofs.Renewed.{reached_many, same_many}
 
--- an entry whose unit has no flag stays
+-- an entry whose unit has no flag is unchanged
 abbrev pub Stay : List Bool → Kept → Kept → Type 0
 Stay fs old new = (i : ℕ) → slice_get fs i ≡ Some false → slice_get new i ≡ slice_get old i
 
--- so do its parts
+-- the parts of a unit without a flag are unchanged
 abbrev pub SameParts : List Bool → List KeptParts → List KeptParts → Type 0
 SameParts fs old new = (i : ℕ) → slice_get fs i ≡ Some false → slice_get new i ≡ slice_get old i
 
@@ -68,7 +68,7 @@ flags_many m (e ∷ es) [] many = absurd (omega (arith, many))
 flags_many m (e ∷ es) (ks ∷ pss) many =
     ap suc (flags_many (behind m (outcome_of m e.unit)) es pss (omega (arith, many)))
 
--- ---- behind an evaluation
+-- ---- after an evaluation
 
 one_were : (width : ℕ) (f : Bool) (d e : Entry) (ks ls : KeptParts) (fs : List Bool) (x : Shown)
     → IsLaid width d ks ks x → e.unit ≡ d.unit → (f ≡ false → e ≡ d) → (f ≡ false → ls ≡ ks) → Stays ks ls fs
@@ -150,7 +150,7 @@ behind_evaluation width old new xs ys h same reached parts marks stay still stay
           (parts_many width old.kept old.parts xs h),
     )) stay still stays)
 
--- ---- behind a refusal
+-- ---- after a failure
 
 mixed_many : (n : ℕ) (ps qs : List KeptParts) → length ps ≡ length qs → length (take n ps ++ drop n qs) ≡ length qs
 mixed_many zero ps qs many = refl
@@ -232,7 +232,7 @@ laid_left width (e ∷ es) [] fss xs h = absurd h
 laid_left width (e ∷ es) (ks ∷ pss) [] xs h = absurd h
 laid_left width (e ∷ es) (ks ∷ pss) (fs ∷ fss) [] h = absurd h
 
--- the same of units that are laid out
+-- units that are laid out are laid out also without the lines of parts
 pub laid_without_parts : (width : ℕ) (kept : Kept) (pss : List KeptParts) (xs : List Shown) → AreLaid width kept pss xs
     → AreLaid width kept pss (without_parts xs)
 laid_without_parts width [] [] [] h = tt
@@ -262,7 +262,7 @@ at_rest width m (e ∷ es) [] fss xs h is = absurd h
 at_rest width m (e ∷ es) (ks ∷ pss) [] xs h is = absurd h
 at_rest width m (e ∷ es) (ks ∷ pss) (fs ∷ fss) [] h is = absurd h
 
--- what is laid out of their parts is what making it from nothing leaves
+-- the layout of their parts is what making it from nothing leaves
 pub parts_laid : (width : ℕ) (m : Moment) (kept : Kept) (pss : List KeptParts) (xs : List Shown)
     → AreLaid width kept pss xs → kept ≡ fresh_from m (units_of kept) → pss ≡ fresh_parts_from m (units_of kept)
     → laid_in xs ≡ attributes_from m (units_of kept) → laid_parts_in xs ≡ laid_parts_from m (units_of kept)
@@ -284,7 +284,7 @@ parts_laid width m [] (ks ∷ pss) xs laid fresh parts is = absurd laid
 parts_laid width m (e ∷ es) [] xs laid fresh parts is = absurd laid
 parts_laid width m (e ∷ es) (ks ∷ pss) [] laid fresh parts is = absurd laid
 
--- their parts tell how many lines stand above them
+-- their parts know how many lines are above them
 below_each : (m : Moment) (us : List DocUnit) (xs : List Shown) → laid_in xs ≡ attributes_from m us
     → AllByRecursion IsReadable xs → AllByRecursion IsBelow xs
 below_each m us [] is h = tt

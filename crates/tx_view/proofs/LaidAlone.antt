@@ -1,5 +1,5 @@
--- Where one unit changes alone, what is left of what is laid out of parts is what moves by its path. The law of what is
--- kept of parts says so of whatever goes with them: here a trace that tells attributes apart.
+-- Where one unit changes alone, the layout of parts that is left is what moves by its path. The law of the parts' cache
+-- says this of whatever is carried with them: here a trace that distinguishes attributes.
 use Rattle.std.proofs.Common.{◌≡◌, ℕ, zero, suc, ◌+◌, Bool, true, false, cond, List, [], ◌∷◌, ◌++◌, length, map, Option}
 use Rattle.std.proofs.Common.{Some, None, refl, ap, ap₂, sym, ◌∙◌}
 use Rattle.std.proofs.lemmas.Bool.Decides.{Decides-int_eq}
@@ -40,12 +40,12 @@ use Rattle.tx_view.specs.Laid.{AreLaidOutside, LaidGoes}
 use Rattle.tx_view.specs.LaidMoves.{LaidMove, laid_move, laid_moves_below, laid_unit_moves, laid_moves_from}
 use Rattle.tx_view.specs.LaidMoves.{laid_moves, laid_arrived, laid_now, all_laid_now}
 
--- ---- traces that tell attributes apart
+-- ---- traces that distinguish attributes
 
 some_trace : WideTrace
 some_trace = record { value = WideValue.text [] None; looks = empty; writes = empty; cost = 0; height = 0 }
 
--- what is kept at the path, where it is of just those that are laid out for these attributes
+-- what is cached at the path, where it is of just those that are laid out for these attributes
 abbrev as_part : Attrs → LaidAt → Stored
 as_part a l = record { path = l.path; trace = if same_attrs a l.before then Some some_trace else None }
 
@@ -188,7 +188,7 @@ module _ (a : Attrs) (ms : List Mod) (t : WideTree) where
         ∙ ap₂ (λ xs ys. xs ++ ys) (units_as 0 us lss) (below_as (length us) [] 0 ls)
         ∙ sym (map-append seen_as (laid_moves_from ms t vs us lss) (laid_moves_below ms t vs [] ls))
 
-    -- what comes to a unit
+    -- what moves to a unit
     come_as : (j : ℕ) (moves : List Move) (xs : List LaidMove) → map seen moves ≡ map seen_as xs
         → arrived moves j ≡ as_parts a (laid_arrived xs j)
     come_as j [] [] e = refl

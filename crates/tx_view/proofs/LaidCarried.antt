@@ -1,4 +1,4 @@
--- What is laid out of parts through an edit, where something is of each part that is kept, or of none.
+-- The layout of parts through an edit, where each part that is cached is laid out, or none is.
 use Rattle.std.proofs.Common.{◌≡◌, ℕ, List, [], ◌∷◌, length, map, Option, Some, refl, ap, ap₂, sym}
 use Rattle.std.proofs.Common.{subst, ◌∙◌, inl, inr}
 use Rattle.std.proofs.lemmas.List.{length-map}
@@ -36,7 +36,7 @@ use Rattle.tx_view.proofs.LaidTogether.{arrive_same, units_same, alike_after}
 use Rattle.tx_view.proofs.Moved.{AreWithin, all_within, as_many, places_many}
 use Rattle.tx_view.proofs.LaidByNumber.{arrived_by_number, laid_with, all_now_by_number, parts_by_way, strays_by_way}
 
--- ---- where the same is laid out and kept
+-- ---- where the same parts are laid out and cached
 
 pub alike_as : (pss qss : List KeptParts) (lss mss : List (List LaidAt)) (ks js : KeptParts) (ls ns : List LaidAt)
     → qss ≡ pss → mss ≡ lss → js ≡ ks → ns ≡ ls → AreAllOrNoneLaid pss lss ks ls → AreAllOrNoneLaid qss mss js ns
@@ -49,7 +49,7 @@ alike_as pss qss lss mss ks js ls ns p l k n h =
 abbrev AreNothing : List (List LaidAt) → Type 0
 AreNothing mss = AllByRecursion (λ ms. ms ≡ []) mss
 
--- nothing is laid out of units that are new
+-- units that are new have no layout
 pub laid_new : (us : List DocUnit) (pss : List KeptParts) (lss : List (List LaidAt)) (ks : KeptParts)
     (ls : List LaidAt) → lss ≡ map (λ u. []) us → ls ≡ [] → AreAllOrNoneLaid pss lss ks ls
 laid_new us pss lss ks ls at_units at_strays =
@@ -97,7 +97,7 @@ laid_fresh width bs b xs ls laid stores none nothing =
 
 -- ---- an edit of a buffer
 
--- strays that are laid out stand in no unit
+-- strays that are laid out are in no unit
 outside : (us : List DocUnit) (ss : List Stray) (ls : List LaidAt) → AreOutside us ss
     → part_paths (kept_strays ss) ≡ laid_at_paths ls → AreLaidOutside us ls
 outside us [] [] h e = tt
@@ -183,7 +183,7 @@ module _ (width buffer : ℕ) (ms : List Mod) (t : WideTree) (old : Kept) (pss :
         ∙ arrive_same buffer ms t us pss lss ks ls vs many alike (length vs),
   )
 
-  -- and is of each part that is kept then, or of none
+  -- and each part that is cached then is laid out, or none is
   pub alike_then : (ts : List (Option ℕ))
       → AreAllOrNoneLaid (CarryParts pss (PartMoves buffer ms t us pss ks vs) ts)
       (all_laid_now lss (laid_moves buffer ms t us lss ls vs) 0 ts)

@@ -1,4 +1,4 @@
--- What is laid out of parts moves as they do, where something is of each, or of none.
+-- The layout of parts moves as they do, where each part is laid out, or none is.
 use Rattle.std.proofs.Common.{◌≡◌, ℕ, zero, suc, ◌+◌, ◌<◌, Bool, true, false, List, [], ◌∷◌, ◌++◌, length, map, Option}
 use Rattle.std.proofs.Common.{Some, None, refl, ap, sym, ◌∙◌, inl, inr, arith}
 use Rattle.std.proofs.lemmas.List.{map-append}
@@ -26,9 +26,9 @@ use Rattle.tx_view.proofs.Numbers.{at_seam, at_front}
 use Rattle.tx_view.proofs.LaidByNumber.{moved_by_number, all_by_number, in_unit_by_number, arrived_by_number}
 use Rattle.tx_view.proofs.LaidByNumber.{now_by_number, all_now_by_number, laid_with}
 
--- ---- something is laid out of each part that moves, and goes with it
+-- ---- each part that moves is laid out, and its layout moves with it
 
--- what goes with the part
+-- what is carried with the part
 abbrev goes : List (List LaidAt) → Move → Option LaidMove
 goes all m = option_map (λ l. record { to = m.to; laid = l }) (moved_by_number all m)
 
@@ -146,7 +146,7 @@ many_lists (ks ∷ pss) (ls ∷ lss) e =
     ap suc
     (many_lists pss lss (heads (part_paths ks) (laid_at_paths ls) (map part_paths pss) (map laid_at_paths lss) e).1)
 
--- of a list that is there the number isn't that behind the last
+-- where a list is found at the number, the number isn't the one after the last
 front_list : (lss : List (List LaidAt)) (last : List LaidAt) (n : ℕ) (ls : List LaidAt) → slice_get lss n ≡ Some ls
     → slice_get (laid_with lss last) n ≡ Some ls
 front_list [] last n ls e = cc
@@ -172,9 +172,9 @@ all_go (suc buffer) ms t us pss lss ks ls vs many are =
     (ap (slice_get (laid_with lss ls)) (sym many) ∙ at_seam lss ls) are.strays
     (λ n m f. ap (slice_get ls) (omega (arith, f)))
 
--- ---- what comes to a unit then
+-- ---- what moves to a unit then
 
--- what goes with a part goes where it goes
+-- what is carried with a part moves where the part moves
 record GoesWith (all : List (List LaidAt)) (m : Move) (x : LaidMove) : Type 0 where
   to : m.to ≡ x.to
   laid : moved_by_number all m ≡ Some x.laid
@@ -207,7 +207,7 @@ each_goes all (m ∷ ms) (x ∷ xs) e =
     let both = heads (goes all m) (Some x) (map (goes all) ms) (map (λ y. Some y) xs) e in
     ap (λ b. b && all_by_number all ms) (ap is_some (goes_with all m x both.0).laid) ∙ each_goes all ms xs both.1
 
--- it comes to the unit
+-- it moves to the unit
 they_come : (all : List (List LaidAt)) (j : ℕ) (ms : List Move) (xs : List LaidMove) → GoTogether all ms xs
     → filter_map (in_unit_by_number all j) ms ≡ laid_arrived xs j
 they_come all j [] [] e = refl
@@ -221,7 +221,7 @@ they_come all j (m ∷ ms) (x ∷ xs) e =
     ∙ ap (λ o. cons_option (if x.to == j then o else None) (filter_map (in_unit_by_number all j) ms)) one.laid
     ∙ ap (cons_option (laid_in_unit j x)) (they_come all j ms xs both.1)
 
--- and has the paths of what is kept of those that come
+-- and has the paths of the cached parts that move there
 paths_come : (all : List (List LaidAt)) (j : ℕ) (ms : List Move) (xs : List LaidMove) → GoTogether all ms xs
     → part_paths (arrived ms j) ≡ laid_at_paths (laid_arrived xs j)
 paths_come all j [] [] e = refl
@@ -239,7 +239,7 @@ paths_come all j (m ∷ ms) (x ∷ xs) e =
     by true path later = ap (λ p. p ∷ part_paths (arrived ms j)) path ∙ ap (λ ps. x.laid.path ∷ ps) later
     by false path later = later
 
--- ---- nothing is laid out of any
+-- ---- no part is laid out
 
 -- what is there of number n of list i
 abbrev laid_at_number : List (List LaidAt) → ℕ → ℕ → Option LaidAt
@@ -333,7 +333,7 @@ module _ (buffer : ℕ) (ms : List Mod) (t : WideTree) (us : List DocUnit) (pss 
           ap (λ o. option_map_or (λ xs. xs) o [])
           (at_front lss ls i (λ e. let less : i < length lss = inside i refl in absurd (omega (arith, e, less))))
 
-  -- ---- so it is afterwards
+  -- ---- it holds afterwards
 
   pub alike_after : (ss : List (Option ℕ)) (n : ℕ)
       → AreAllOrNoneLaid (all_parts_now pss told 0 ss) (all_laid_now lss moves 0 ss) (arrived told n)

@@ -1,4 +1,4 @@
--- What is known behind an edit of the one unit that it changes.
+-- What is known after an edit of the one unit that it changes.
 use Rattle.std.proofs.Common.{◌≡◌, ℕ, List, true, Option, Some, None, slice_set, ap, sym, subst, ◌∙◌, arith}
 use Rattle.std.specs.Prelude.{if◌then◌else◌, IfSome}
 use Rattle.tx_tree.specs.WideTree.{WideTree}

@@ -73,7 +73,7 @@ former_told to fresh silent old i ps was (Some f) is shown h =
       was = subst (λ k. WasShown old k f) (sym w.number) w;
     }
 
--- ---- what stays of what is shown
+-- ---- what is unchanged of what is shown
 
 put_back : (ps : PartPlaces) (i k j : ℕ) (a : Attrs) (ys xs : List Shown) → i ≡ k + j → StayBut ps i k ys xs
     → slice_get (laid_in ys) j ≡ Some (Some a) → slice_set (laid_in xs) j (Some a) ≡ laid_in ys
@@ -96,7 +96,7 @@ unlaid_there ps i k zero o (y ∷ ys) (x ∷ xs) e h at =
 unlaid_there ps i k (suc j) o (y ∷ ys) (x ∷ xs) e h at =
     unlaid_there ps i (k + 1) j o ys xs (omega (arith, e)) h.1 at
 
--- what units show stays until they are laid out anew, but for that of the unit that has changed
+-- what units show is unchanged until they are laid out anew, but for that of the unit that has changed
 pub views_but : (ps : PartPlaces) (i k j : ℕ) (d : Shown) (ys xs : List Shown) → i ≡ k + j → StayBut ps i k ys xs
     → slice_get ys j ≡ Some d → slice_set (unit_views xs) j (unit_view d) ≡ unit_views ys
 views_but ps i k j d [] xs e h at = cc
@@ -125,7 +125,7 @@ pub view_there : (ps : PartPlaces) (i : ℕ) (d : Shown) (ys xs : List Shown) �
 view_there ps i d ys xs h at =
     omega (arith, slice_get_within ys i d at, as_many_stay ps i 0 ys xs h, as_many_views xs)
 
--- ---- what is kept
+-- ---- what is cached
 
 abbrev taken : ℕ → ℕ → List (Option WideTrace) → List DocUnit → List (Option WideTrace)
 taken i k all vs = traces_of (taken_from all (numbers_but i k (length vs)) vs)
@@ -187,7 +187,7 @@ from_along m [] = refl
 from_along m (u ∷ us) =
     ap (λ as_laid. Some (attributes_of m.env) ∷ as_laid) (from_along (behind m (outcome_of m u)) us)
 
--- a fresh view is laid out for the attributes behind what is kept
+-- a fresh view is laid out for the attributes along the cached traces
 pub fresh_along : (v : Inside) → IsKept v → v.fresh ≡ true
     → laid_in (all_of v) ≡ attributes_along empty (traces_of v.bridges.kept)
 unfolding Fresh

@@ -1,4 +1,4 @@
--- The lines of a unit above and below one of a stretch, and the place behind a column of it.
+-- The lines of a unit above and below one of a stretch, and the place at a column of it.
 use Rattle.std.proofs.Common.{◌≡◌, ℕ, zero, suc, ◌+◌, ◌<◌, List, [], ◌∷◌, ◌++◌, length, take, drop, refl, sym, ap, ap₂}
 use Rattle.std.proofs.Common.{◌∙◌, arith}
 use Rattle.std.specs.Prelude.{Some, slice_get}
@@ -71,7 +71,7 @@ module _ (x : Shown) (row : ℕ) (r : ℕ × ℕ) (h : IsLineOf x row r) where
       ∙ ap (λ o. drop (r.1 + 1) (option_map_or stretch_lines o [])
       ++ flat_map stretch_lines (drop (r.0 + 1) (stretches x))) (sym h.there)
 
-  -- the place behind a column of the line
+  -- the place at a column of the line
   pub place_told : (path : List ℕ) (column : ℕ) (p : Place)
       → ((s : WideStretch) (line : Line) → slice_get (stretches x) r.0 ≡ Some s → slice_get s.lines r.1 ≡ Some line
       → p ≡ spot_place (place_on path (lines_above x r.0 r.1) (line_under s.part line) (lines_below x r.0 r.1) column))

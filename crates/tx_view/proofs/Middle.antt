@@ -1,4 +1,4 @@
--- A part of the stops of units that tells what is beside a place.
+-- A part of the stops of units that decides what is beside a place.
 use Rattle.std.proofs.Common.{◌≡◌, ℕ, zero, suc, ◌+◌, ◌-◌, ◌<◌, ◌≤◌, Bool, true, false, cond, ◌==◌, List, [], ◌∷◌}
 use Rattle.std.proofs.Common.{◌++◌, length, take, drop, get_or, Option, Some, None, refl, sym, ap, ◌∙◌, arith}
 use Rattle.std.proofs.Common.{append_assoc, append-nil, take-append-drop, length-append}
@@ -54,7 +54,7 @@ between_next raw from i q now new lt is so more =
 
 -- ---- the part
 
--- what stands behind so many stops
+-- what comes after so many stops
 rest_of : (raw : List Place) (to : ℕ) (front : List Place) → each_once (take to raw) ≡ front
     → (ys : List Place) × (each_once raw ≡ front ++ ys) × (length raw ≤ to → ys ≡ [])
 rest_of raw to front e =

@@ -1,4 +1,4 @@
--- What is shown of units went with them.
+-- What is shown of units has moved with them.
 use Rattle.std.proofs.Common.{◌≡◌, ℕ, zero, suc, ◌+◌, ◌<◌, ◌≤◌, List, [], ◌∷◌, ◌++◌, length, take, drop, map, slice_set}
 use Rattle.std.proofs.Common.{slice_index_or, true, false, Option, Some, None, refl, ap, sym}
 use Rattle.std.proofs.Common.{subst, ◌∙◌, arith}
@@ -63,7 +63,7 @@ IsLeft ss j k = (h : ℕ) → h < j → slice_get ss h ≡ Some (Some k) → ⊥
 abbrev pub AreOnce : List (Option ℕ) → Type 0
 AreOnce ss = (i j k : ℕ) → slice_get ss j ≡ Some (Some i) → slice_get ss k ≡ Some (Some i) → j ≡ k
 
--- Behind j new units. What is given and what is left to give are all, and what is left is as it was.
+-- After j new units. What is given and what is left to give are all, and what is left is as it was.
 pub record Giving (ss : List (Option ℕ)) (was old before now : List Shown) (j : ℕ) : Type 0 where
   pub given : take j now ++ moved (drop j ss) was (drop j now) ≡ moved ss was before
   pub left : (k : ℕ) → IsLeft ss j k → slice_get old k ≡ slice_get was k
@@ -220,7 +220,7 @@ out_there width a v p q r y e is h = record {
 abbrev entry : DocUnit → Option WideTrace → Entry
 entry v o = record { unit = v; trace = o }
 
--- what units and strays had, with what was kept of it, and which of it has moved
+-- what units and strays had, with what was cached of them, and which parts have moved
 pub record HadMoved (width : ℕ) (kss : List KeptParts) (placed : PlacedLists) (all : List DocUnit)
     (moves : List Move) : Type 0 where
   pub laid : AreAllLaid width kss placed
@@ -374,7 +374,7 @@ none_where : (p q : Option (List ℕ)) → is_some p ≡ is_some q → q ≡ Non
 none_where None q e f = refl
 none_where (Some p) q e f = let off : true ≡ false = e ∙ ap is_some f in cc
 
--- what is laid out of parts has short places, and this is told of their moves
+-- the lines of parts have short places, and this is known of their moves
 pub record CanMove (kss : List KeptParts) (placed : PlacedLists) (all : List DocUnit) (moves : List Move)
     : Type 0 where
   pub told : AreMovesOf kss all moves
@@ -480,7 +480,7 @@ pub places_many : (ms : List Mod) (t : WideTree) (us : List DocUnit) → length 
 places_many ms t [] = refl
 places_many ms t (u ∷ us) = ap suc (places_many ms t us)
 
--- what was kept of units and strays, and what was laid out of them
+-- what was cached of units and strays, and their lines
 pub record WasKept (width : ℕ) (old : Kept) (pss : List KeptParts) (ks : KeptParts) (olds : List Shown)
     (ps : List PlacedPart) : Type 0 where
   pub laid : AreLaid width old pss olds

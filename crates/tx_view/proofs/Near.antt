@@ -15,7 +15,7 @@ stop_before ps None = slice_get ps 0
 stop_before ps (Some zero) = None
 stop_before ps (Some (suc k)) = slice_get ps k
 
--- the stop behind the one of this number, and the first where there is no number
+-- the stop after the one of this number, and the first where there is no number
 abbrev pub stop_behind : List Place → Option ℕ → Option Place
 stop_behind ps None = slice_get ps 0
 stop_behind ps (Some k) = slice_get ps (k + 1)

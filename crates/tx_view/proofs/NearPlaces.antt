@@ -1,4 +1,4 @@
--- The nearest place, by the last mark before and the first behind.
+-- The nearest place, by the last mark before and the first after.
 use Rattle.std.proofs.Common.{◌≡◌, ℕ, ◌+◌, ◌-◌, List, [], ◌∷◌, ◌++◌, length, take, drop, map, refl, sym, ap}
 use Rattle.std.proofs.Common.{◌∙◌}
 use Rattle.std.proofs.lemmas.List.{take_rest, take-map, drop-map}
@@ -37,7 +37,7 @@ nearest_is path [] after = refl
 nearest_is path (m ∷ []) after = refl
 nearest_is path (m ∷ (n ∷ ns)) after = nearest_is path (n ∷ ns) after
 
--- what is found above, before, behind and below on the lines
+-- what is found above, before, after and below on the lines
 abbrev found : List ℕ → Option Mark → Option Mark → Option Mark → Option Mark → BasedPlace
 found path own above rest below = stop_or path (or_else own above) (start_or_unit path (or_else rest below))
 

@@ -1,4 +1,4 @@
--- The list in which an element of all stands, by the sums of their lengths.
+-- The list that holds an element of all, by the sums of their lengths.
 use Rattle.std.proofs.Common.{◌≡◌, ℕ, zero, suc, ◌+◌, ◌-◌, ◌<◌, ◌≤◌, List, [], ◌∷◌, length, get_or, true, false, refl}
 use Rattle.std.proofs.Common.{sym, subst, ap, ◌∙◌, add-one, arith}
 use Rattle.std.specs.Prelude.{nat_lt, if◌then◌else◌, Option, Some, None}

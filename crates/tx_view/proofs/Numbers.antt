@@ -11,7 +11,7 @@ not_equal k i h = false_from_ne_true (k == i) (λ e. absurd (h ((Decides-eqb k i
 pub are_equal : (k i : ℕ) → k ≡ i → k == i ≡ true
 are_equal k i e = (Decides-eqb k i).1 e
 
--- of each number from k on, these are the elements behind number k
+-- these are the elements from number k on
 abbrev pub AreFrom : {A : Type 0} → List A → ℕ → List A → Type 0
 AreFrom all k xs = (n m : ℕ) → m ≡ k + n → slice_get all m ≡ slice_get xs n
 
@@ -23,7 +23,7 @@ some_there [] i less = absurd (omega (arith, less))
 some_there (x ∷ xs) zero less = refl
 some_there (x ∷ xs) (suc i) less = some_there xs i (omega (arith, less))
 
--- the element that stands behind a list, and those of the list
+-- the element that follows a list, and those of the list
 pub at_seam : {A : Type 0} (xs : List A) (y : A) → slice_get (xs ++ y ∷ []) (length xs) ≡ Some y
 at_seam [] y = refl
 at_seam (x ∷ xs) y = at_seam xs y

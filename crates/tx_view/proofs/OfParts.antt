@@ -1,4 +1,4 @@
--- What is laid out of the parts of a unit, where the unit stays, and where modifications are inside it.
+-- The lines of the parts of a unit, where the unit is unchanged, and where modifications are inside it.
 use Rattle.std.proofs.Common.{◌≡◌, ℕ, true, List, [], ◌∷◌, ◌++◌, map, Option, Some, None, refl, ap, sym}
 use Rattle.std.proofs.Common.{subst, ◌∙◌, ◌⊎◌, inl, inr, zero, suc}
 use Rattle.std.proofs.lemmas.Option.{same_Some}
@@ -48,7 +48,7 @@ pub none_wide : (qs : List PlacedPart) → map wide_part qs ≡ [] → qs ≡ []
 none_wide [] e = refl
 none_wide (q ∷ qs) e = cc
 
--- but what is laid out of these parts
+-- but the lines of these parts
 pub arrived_is_laid : (width : ℕ) (e : Entry) (ks : KeptParts) (ps : List WidePart) (x : Shown)
     → IsBlank e.unit.path ps x → AreLaidParts width ks x.parts → IsLaid width e ks ks x
 arrived_is_laid width e ks ps x blank parts = record {
@@ -86,7 +86,7 @@ same_ats a ks o u v tree placed =
     by (Some p) None e = cc
     by (Some p) (Some q) e = refl
 
--- ---- parts that go elsewhere
+-- ---- parts that move
 
 abbrev pub at_wide : WidePart → LaidAt
 at_wide w = record { path = w.path; before = w.laid.before }
@@ -95,7 +95,7 @@ pub wide_ats : (qs : List PlacedPart) → map at_wide (map wide_part qs) ≡ map
 wide_ats [] = refl
 wide_ats (q ∷ qs) = ap (λ ls. laid_at q ∷ ls) (wide_ats qs)
 
--- the parts that are kept, by where they stand in the unit afterwards
+-- the parts that are cached, by where they are in the unit afterwards
 module _ (g : List ℕ → Option (List ℕ)) where
   abbrev kept_by : KeptParts → KeptParts
   kept_by [] = []
@@ -116,7 +116,7 @@ module _ (g : List ℕ → Option (List ℕ)) where
       by None e = e
       by (Some q) e = ap (λ ls. record (laid_at p) { path = q } ∷ ls) e
 
-  -- what is laid out of parts is of those that are kept
+  -- the lines of parts are of those that are cached
   abbrev AreOfKept : ℕ → KeptParts → List PlacedPart → Type 0
   AreOfKept width ks qs = AllByRecursion (λ p. IsLaidPart width p.laid.value) qs × AreOf ks qs
 
@@ -193,7 +193,7 @@ left_some width ms t p ks ps qs each of is apart =
       of_kept = inr behind;
     }
 
--- what stays of the unit inside which they are
+-- what is left of the unit that the modifications are inside
 pub left_laid : (width : ℕ) (ms : List Mod) (t : WideTree) (e : Entry) (ks : KeptParts) (y : Shown)
     (qs : List PlacedPart) → IsLaid width e ks ks y → map wide_part qs ≡ parts_left ms t y.path y.parts
     → AreDistinct (parts_within ms t e.unit ks) → AreLaidParts width (parts_within ms t e.unit ks) qs
@@ -220,9 +220,9 @@ left_ats ms t path y qs is left =
     by None = refl
     by (Some p) = ats_by (carried_below ms t p) y.parts
 
--- ---- what the calls tell
+-- ---- what the calls return
 
--- the entry of a unit, and what is kept of its parts
+-- the entry of a unit, and what is cached of its parts
 pub record IsFound (width : ℕ) (es : Kept) (pss : List KeptParts) (i : ℕ) (x : Shown) : Type 0 where
   pub entry : Entry
   pub parts : KeptParts
@@ -248,7 +248,7 @@ found width (e ∷ es) (ks ∷ pss) (y ∷ ys) (suc i) x h at =
     let f = found width es pss ys i x h.1 at in
     record { entry = f.entry; parts = f.parts; unit = f.unit; kept = f.kept; laid = f.laid }
 
--- the parts are put where those that are kept stand afterwards
+-- the parts are put where those that are cached are afterwards
 pub left_there : (width i buffer : ℕ) (ms : List Mod) (t : WideTree) (es : Kept) (pss : List KeptParts)
     (ys : List Shown) (os : List (ℕ × Option DonePart)) (x : Shown) (places : PartPlaces) → AreLaid width es pss ys
     → IsOneChanged i buffer ms (units_of es) → AreMovedAt i ms t es pss os → slice_get ys i ≡ Some x

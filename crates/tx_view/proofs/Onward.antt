@@ -44,7 +44,7 @@ use Rattle.tx_view.proofs.UnitRows.{placed_errors, as_many_errors}
 
 -- ---- how many units there are
 
--- as many as are kept, with parts and flags
+-- there are as many units as are cached, with parts and flags
 pub record AreMany (kept : Kept) (pss : List KeptParts) (fss : List (List Bool)) (xs : List Shown) : Type 0 where
   pub shown : length xs ≡ length kept
   pub parts : length pss ≡ length kept
@@ -101,9 +101,9 @@ laid_set width (k ∷ es) (l ∷ pss) (g ∷ fss) (x ∷ xs) zero e ks fs y h at
 laid_set width (k ∷ es) (l ∷ pss) (g ∷ fss) (x ∷ xs) (suc i) e ks fs y h at parts flags is =
     (h.0, laid_set width es pss fss xs i e ks fs y h.1 at parts flags is)
 
--- ---- what is kept of one unit
+-- ---- what is cached of one unit
 
--- the entry of which this is kept
+-- the entry with this cached trace
 pub entry_with : (kept : Kept) (i : ℕ) (o : Option WideTrace)
     → option_map (λ (e : Entry). e.trace) (slice_get kept i) ≡ Some o
     → (e : Entry) × (slice_get kept i ≡ Some e) × (e.trace ≡ o)
@@ -129,7 +129,7 @@ there (x ∷ xs) (suc i) h = there xs i (omega (arith, h))
 pub entry_there : (kept : Kept) (i : ℕ) → i < length kept → (e : Entry) × (slice_get kept i ≡ Some e)
 entry_there kept i h = there kept i h
 
--- something is kept of unit i, and of its parts
+-- something is cached of unit i, and of its parts
 pub record HasUnit (b : Bridged) (i : ℕ) : Type 0 where
   pub entry : Entry
   pub parts : KeptParts
@@ -239,7 +239,7 @@ next_is over law width e ks fs m after x y a n weight trace parts is_a is_after 
           );
     }
 
--- it is so of what is kept, and nothing else is
+-- it holds of what is cached, since nothing else is cached there
 pub next_by : {width : ℕ} {e f : Entry} {ks ls : KeptParts} {fs gs : List Bool} {m after : Moment} {x y : Shown} {n : ℕ}
     → IsSameUnit e f ks ls fs gs → IsNext width f ls gs m after x y n → IsNext width e ks fs m after x y n
 next_by {width} {e} {f} {ks} {ls} {fs} {gs} {m} {after} {x} {y} {n} same h =
@@ -443,7 +443,7 @@ module _ (width : ℕ) (b : Bridged) (old now : List Shown) (i : ℕ) (m : Momen
       most = omega (arith, n.most, p.most);
     }
 
--- by what the calls ensure of whatever is kept of unit i
+-- by what the calls ensure of whatever is cached of unit i
 module _ {width : ℕ} {b : Bridged} {old now : List Shown} {i : ℕ} {m : Moment} {items before after : ℕ}
     (p : Onward width b old now i m items before after) (inside : i < length now) (d : Shown) where
   pub inside_kept : i < length b.kept

@@ -1,4 +1,4 @@
--- What a refresh leaves that lacked memory.
+-- What a refresh leaves that ran out of memory.
 use Rattle.std.proofs.Common.{◌≡◌, ℕ, zero, suc, ◌+◌, ◌≤◌, ◌⊎◌, inl, inr, List, [], ◌∷◌, ◌++◌, length, take}
 use Rattle.std.proofs.Common.{drop, map, Bool, true, false, Option, Some, None, refl, ap, sym, subst, ◌∙◌, arith}
 use Rattle.std.proofs.Common.{slice_set, slice_index_or, append-nil}
@@ -84,7 +84,7 @@ many_units (e ∷ es) = ap suc (many_units es)
 same_past : {A : Type 0} (xs ys : List A) (i : ℕ) → length xs ≤ i → length ys ≤ i → slice_get xs i ≡ slice_get ys i
 same_past xs ys i le le' = slice_get_past xs i le ∙ sym (slice_get_past ys i le')
 
--- past the last unit nothing is kept before or afterwards
+-- past the last unit nothing is cached before or afterwards
 past_all : (old new : Bridged) (xs ys : List Shown) (i : ℕ) → length xs ≡ length old.kept
     → length ys ≡ length xs → units_of new.kept ≡ units_of old.kept → length xs ≤ i
     → HasUnitOf (view_stores_in new ys) (view_stores_in old xs) i
@@ -120,7 +120,7 @@ dropped_all old new xs ys n many same kept parts strays is = record {
     by i (inl e) = inr (inl (ap (λ zs. slice_get (laid_in zs) i) is ∙ e))
     by i (inr le) = inl (past_all old new xs ys i many (ap length is ∙ many_dropped xs) same le)
 
--- ---- what was laid out of the units with a flag is dropped
+-- ---- the layout of the units with a flag is dropped
 
 flag_laid : (fs : List Bool) (xs : List Shown) (i : ℕ) → length fs ≡ length xs
     → (slice_get (laid_in (without fs xs)) i ≡ Some None)
@@ -215,7 +215,7 @@ laid_more old fresh xs i y a h right is j = by (set_here xs i y j) (h j)
     by (inl e) (inr f) = inr (e ∙ f)
     by (inr p) f = inr (p.1 ∙ ap Some is ∙ sym right ∙ ap (slice_get fresh) (sym p.0))
 
--- or it stays
+-- or it is unchanged
 pub laid_again : (old fresh : List (Option Attrs)) (xs : List Shown) (i : ℕ) (y d : Shown)
     → ArePartlyLaid old fresh (laid_in xs) → y ≡ slice_index_or xs i d
     → ArePartlyLaid old fresh (laid_in (slice_set xs i y))
@@ -269,7 +269,7 @@ evaluated old new xs mid ys kept parts same stay strays laid =
           laid = g ∙ e ∙ ap (λ us. slice_get (attributes_from beginning us) i) same;
         }))
 
--- all is as making it from nothing leaves it, but for what is laid out of parts
+-- all is as making it from nothing leaves it, but for the lines of parts
 pub all_fresh : (old : ViewStores) (new : Bridged) (us : List DocUnit) (xs : List Shown)
     → view_stores_in new xs ≡ fresh_stores us
     → IsPartlyFresh old (fresh_stores us) (view_stores_in new (without_parts xs))
@@ -299,7 +299,7 @@ all_fresh old new us xs e =
           laid = g ∙ ap (λ s. slice_get s.laid i) e;
         }))
 
--- ---- strays stand where they stood
+-- ---- strays are where they were
 
 pub stay_aside : (t : WideTree) (old new : List Stray) → (new ≡ old) ⊎ (new ≡ []) → StandAside t old
     → StandAside t new

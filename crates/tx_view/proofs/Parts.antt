@@ -11,7 +11,7 @@ use Rattle.std.proofs.lemmas.List.Folds.{list_any-append}
 use Rattle.std.proofs.lemmas.List.Sums.{fold-append}
 
 module _ {X : Type 0} (p : X → Bool) where
-  -- ---- how many elements stand before the first that passes
+  -- ---- how many elements come before the first that passes
 
   none_len : (xs : List X) → list_any p xs ≡ false → position_or_len p xs ≡ length xs
   none_len [] e = refl
@@ -171,7 +171,7 @@ module _ {X : Type 0} (eq : X → X → Bool) where
   fold_out acc now (q ∷ ps) h =
       ap (λ xs. fold put_by xs ps) (put_out acc now q h.0) ∙ fold_out acc (put_by now q) ps h.1
 
-  -- where no element of the second part stands in the first, the parts are gone through each by itself
+  -- where no element of the second part is in the first, the parts are gone through each by itself
   pub once_in_parts : (ps qs : List X) → AllByRecursion (λ q. list_any (eq q) (fold put_by [] ps) ≡ false) qs
       → fold put_by [] (ps ++ qs) ≡ fold put_by [] ps ++ fold put_by [] qs
   once_in_parts ps qs h =
@@ -212,7 +212,7 @@ module _ {X : Type 0} (eq : X → X → Bool) where
   pub once_some : (q : X) (ps : List X) → fold put_by [] (q ∷ ps) ≡ [] → ⊥
   once_some q ps e = let none = ap length e in omega (arith, more_folded (q ∷ []) ps, none)
 
-  -- ---- what passes a test stays, whatever is put
+  -- ---- what passes a test remains, whatever is put
 
   some_put : (p : X → Bool) (acc : List X) (q : X) → list_any p acc ≡ true → list_any p (put_by acc q) ≡ true
   some_put p acc q e = pick (list_any (eq q) acc)
@@ -232,7 +232,7 @@ module _ {X : Type 0} (eq : X → X → Bool) where
       pick true f = f
       pick false f = some_in_right (eq q) acc (q ∷ []) (ap (λ b. b || false) e)
 
-  -- what is put behind others
+  -- what is put after others
   pub folded_more : (acc ps : List X)
       → (ys : List X) × (fold put_by acc ps ≡ acc ++ ys) × (ps ≡ [] → ys ≡ [])
   folded_more acc [] = ([], sym (append-nil acc), λ e. refl)

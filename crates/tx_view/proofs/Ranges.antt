@@ -20,7 +20,7 @@ use Rattle.tx_view.proofs.Parts.{none_in_both, none_in_parts, some_in_left, some
 use Rattle.tx_view.proofs.Parts.{not_among, number_within, first_of_parts, last_of_parts}
 use Rattle.tx_view.proofs.Neighbours.{apart_left, apart_right, stops_in_parts, none_above, none_else}
 
--- ---- stops of what is kept, in parts
+-- ---- stops of units that are shown, in parts
 
 apart_of : (us vs : List Shown) → AreAllApart (unit_views (us ++ vs)) → AreAllApart (unit_views us ++ unit_views vs)
 apart_of us vs h = subst AreAllApart (map-append unit_view us vs) h

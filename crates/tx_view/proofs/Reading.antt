@@ -1,4 +1,4 @@
--- Lines and clusters as views tell them: each from the path of the part that shows it.
+-- Lines and clusters as views return them: each from the path of the part that shows it.
 use Rattle.std.proofs.Common.{◌≡◌, ℕ, ◌<◌, ◌≤◌, List, length, get_or, refl, sym, ap, ◌∙◌, subst, Bor}
 use Rattle.std.specs.Prelude.{Option, Some, None, MatchOption, IfSome, slice_get, option_and_then}
 use Rattle.std.specs.Option.{option_map}

@@ -30,7 +30,7 @@ relaid_one true laid a n = by (is_before laid a)
     by false = refl
 relaid_one false laid a n = refl
 
--- the flags of parts are those by what was kept of them before
+-- the flags of parts are those by what was cached of them before
 pub unlaid_is : (m : Moment) (kept : Kept) (pss : List KeptParts) (xs : List Shown)
     → items_unlaid_from m (units_of kept) (part_flags_from m kept pss) (without (reached_from m kept pss) xs)
     ≡ items_relaid_from m kept pss (laid_in xs) (laid_parts_in xs)
@@ -53,7 +53,7 @@ pub same_many : (old new : Kept) → units_of new ≡ units_of old → length ol
 same_many old new e =
     sym (length-map old (λ (k : Entry). k.unit)) ∙ ap length (sym e) ∙ length-map new (λ (k : Entry). k.unit)
 
--- the same of flags as a refresh leaves them
+-- the items that are laid out anew, with flags as a refresh leaves them
 pub relaid_is : (old new : Kept) (olds : List KeptParts) (flags : List Bool) (marks : List (List Bool))
     (xs ys : List Shown) → flags ≡ reached_from beginning old olds → marks ≡ part_flags_from beginning old olds
     → units_of new ≡ units_of old → ys ≡ without flags xs
@@ -83,7 +83,7 @@ alone_next lone i flags alone next reached before on here is = λ yes k less oth
           ∙ here yes (not_equal i lone (λ e. other (same ∙ e)))
     ]
 
--- what was kept of those that were not evaluated anew stays
+-- what was cached of those that were not evaluated anew is unchanged
 pub alone_is : (lone n : ℕ) (old new : Kept) (olds : List KeptParts) (flags : List Bool)
     → flags ≡ reached_from beginning old olds → units_of new ≡ units_of old
     → ((i : ℕ) → slice_get flags i ≡ Some false → slice_get new i ≡ slice_get old i)

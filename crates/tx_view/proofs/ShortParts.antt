@@ -1,4 +1,4 @@
--- Clusters of parts have short places wherever the parts stand.
+-- Clusters of parts have short places wherever the parts are.
 use Rattle.std.proofs.Common.{◌≡◌, ℕ, ◌+◌, ◌≤◌, List, [], ◌∷◌, ◌++◌, map, Option, Some, None, refl, ap, sym, subst}
 use Rattle.std.proofs.lemmas.List.Elements.{All-from_recursion, recursion_from_All}
 use Rattle.std.specs.List.{flat_map, All, AllByRecursion}
@@ -42,7 +42,7 @@ items_deeper : (base : List ℕ) (is : List Item) → All IsShort is → All IsS
 items_deeper base is h =
     All-from_recursion IsShort (map (item_under base) is) (each_deeper base is (recursion_from_All IsShort is h))
 
--- what has items, lines or paragraphs, and what of it is laid out of a part
+-- what has items, lines or paragraphs, and which of these a part has
 module _ {L : Type 0} (items : L → List Item) (under : List ℕ → L → L)
     (same : (base : List ℕ) (l : L) → items (under base l) ≡ map (item_under base) (items l))
     (of : LaidPart → List L) where
@@ -115,7 +115,7 @@ module _ {L : Type 0} (items : L → List Item) (under : List ℕ → L → L)
       All-from_recursion OneShort (placed ps ++ rest)
       (joined (placed ps) rest (short_parts ps h) (subst AreShort (sym none) tt))
 
-  -- they stay short where parts go elsewhere
+  -- they remain short where parts move
   pub stays_short : (gs : List (Option (List ℕ))) (ps qs : List PlacedPart) (rest : List L)
       → map wide_part qs ≡ laid_by gs ps → All (λ l. All IsShort (items l)) (placed ps ++ rest)
       → All (λ l. All IsShort (items l)) (placed qs ++ rest)

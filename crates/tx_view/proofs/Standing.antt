@@ -35,7 +35,7 @@ use Rattle.tx_view.specs.WholeViews.{WholeView, whole_of, all_of, view_stores_of
 use Rattle.tx_view.proofs.Forgetting.{AllReadable}
 use Rattle.tx_view.proofs.OfParts.{no_parts}
 
--- what stays whatever becomes of a view
+-- what holds at every moment, whatever becomes of a view
 pub record IsSized (v : Inside) : Type 0 where
   pub some : 1 ≤ length v.buffers.items
   pub few : length v.buffers.items ≤ 64
@@ -53,13 +53,13 @@ IsLeft v =
     IfSome v.lone (λ l. IsLone v.bridges.kept v.hidden.items l.unit l.attrs
     × WerePages v.height (unit_views v.hidden.items) l)
 
--- what is kept and laid out of strays
+-- the cached traces and the lines of strays
 pub record AreAside (v : Inside) : Type 0 where
   pub laid : AreLaidParts v.width (kept_strays v.bridges.strays) v.strays
   pub short : AllByRecursion HasShortPlaces v.strays
   pub stand : StandAside (document_of v.buffers.items) v.bridges.strays
 
--- where these are shown, something is laid out of each part that is kept, or of none
+-- where these are shown, each part that is cached is laid out, or none is
 abbrev pub AreAllOrNone : Inside → List Shown → Type 0
 AreAllOrNone v xs =
     AreAllOrNoneLaid v.bridges.parts (laid_parts_in xs) (kept_strays v.bridges.strays) (map laid_at v.strays)
@@ -158,7 +158,7 @@ left_none v e =
     subst (λ (o : Option Lone). IfSome o (λ l. IsLone v.bridges.kept v.hidden.items l.unit l.attrs
     × WerePages v.height (unit_views v.hidden.items) l)) (sym e) tt
 
--- nothing is laid out of strays
+-- strays have no lines
 pub none_aside : (v : Inside) → v.strays ≡ [] → StandAside (document_of v.buffers.items) v.bridges.strays → AreAside v
 none_aside v none stand = record {
   laid =

@@ -1,4 +1,4 @@
--- What is shown stays in place, but for one unit that has changed.
+-- What is shown is unchanged in place, but for one unit that has changed.
 use Rattle.std.proofs.Common.{◌≡◌, ℕ, zero, suc, ◌+◌, ◌<◌, List, [], ◌∷◌, ◌++◌, length, map, slice_set}
 use Rattle.std.proofs.Common.{slice_index_or, Bool, true, false, Option, Some, None, refl, ap, sym, subst, ◌∙◌, arith}
 use Rattle.std.proofs.lemmas.List.Elements.{recursion_from_All, All-from_recursion}
@@ -70,7 +70,7 @@ stay_but ps i k (suc j) (y ∷ ys) d x e l is = (
   stay_but ps i (k + 1) j ys d x (omega (arith, e)) (omega (arith, l)) is,
 )
 
--- ---- what stays of what is shown
+-- ---- what is unchanged of what is shown
 
 pub stays_same : (ps : PartPlaces) (y x : Shown) (c : Bool) → c ≡ false → IsLeftBy ps c y x → x ≡ y
 stays_same ps y x true e h = cc
@@ -89,7 +89,7 @@ stay_behind ps i k (y ∷ ys) (x ∷ xs) less h =
     ap (λ z. z ∷ xs) (stays_same ps y x (k == i) (not_equal k i (λ e. omega (arith, e, less))) h.0)
     ∙ ap (λ zs. y ∷ zs) (stay_behind ps i (k + 1) ys xs (omega (arith, less)) h.1)
 
--- ---- what is kept and shown of the new units
+-- ---- what is cached and shown of the new units
 
 pub had_here : {A : Type 0} (all : List (Option A)) (k : ℕ) (x : Option A) (c : Bool) → slice_get all k ≡ Some x
     → had all (if c then None else Some k) ≡ (if c then None else x)
@@ -158,7 +158,7 @@ trace_stays : (traces : List (Option WideTrace)) (i k : ℕ) (o : Option WideTra
 trace_stays traces i k o off at =
     had_here traces k o (k == i) at ∙ ap (λ b. if b then None else o) (not_equal k i off)
 
--- units behind number i
+-- units after number i
 stay_past : (width i k : ℕ) (ps : PartPlaces) (traces : List (Option WideTrace)) (all : List DocUnit) (es : Kept)
     (pss : List KeptParts) (vs : List DocUnit) (ys xs : List Shown) → i < k → AreFrom traces k (traces_of es)
     → AreFrom all k (units_of es) → AreLaid width es pss ys → StayBut ps i k ys xs
@@ -230,7 +230,7 @@ stay_laid width i k (suc j) ms t ps ts all (e ∷ es) (ks ∷ pss) (v ∷ vs) (y
           same.1 both.1 left far.1,
     )
 
--- that unit stays readable
+-- that unit remains readable
 left_reads : (ms : List Mod) (t : WideTree) (ps : PartPlaces) (y : Shown) → IsReadable y → AreLeft ms t ps y
     → IsReadable (left_with ps y)
 left_reads ms t ps y reads left =
@@ -343,7 +343,7 @@ laid_many width (x ∷ es) (ks ∷ pss) (y ∷ ys) (v ∷ vs) h e =
     ap suc (laid_many width es pss ys vs h.1
     (heads v.path x.unit.path (paths_of vs) (paths_of (units_of es)) e).1)
 
--- what is left is told of the units that are shown, or else of the hidden ones
+-- what is left is known of the units that are shown, or else of the hidden ones
 pub left_of : (ms : List Mod) (t : WideTree) (us : List DocUnit) (moves : List Move) (vs : List DocUnit) (to : Target)
     (fresh : Bool) (xs ys shown hidden : List Shown) (before after : List PlacedPart) → xs ≡ shown → ys ≡ hidden
     → IsLeft ms t us moves vs to (if fresh then xs else ys) before after

@@ -30,7 +30,7 @@ use Rattle.tx_view.proofs.Finding.{all_marks_in, all_join, one_of_all}
 
 -- ---- where clusters begin and end
 
--- a place behind a part's path has the origin from the unit's tree
+-- a place below a part's path has the origin from the unit's tree
 pub ends_at : (path b at : List ℕ) (s : BasedPlace) (m : Mark) (offset : ℕ) → s.base ≡ path ++ b → s.origin ≡ Some at
     → s.offset ≡ offset → m.origin ≡ b ++ at → spot_place s ≡ mark_place path m offset
 ends_at path b at s m offset base origin off is =

@@ -1,4 +1,4 @@
--- Elements of units, one unit after the other: how many, and where each stands.
+-- Elements of units in order: how many, and where each is.
 use Rattle.std.proofs.Common.{◌≡◌, ℕ, zero, suc, ◌+◌, ◌-◌, ◌<◌, ◌≤◌, List, [], ◌∷◌, ◌++◌, map, length, take}
 use Rattle.std.proofs.Common.{get_or, Bool, true, false, refl, sym, subst, ap, ◌∙◌, add-one, arith, length-append}
 use Rattle.std.specs.Prelude.{nat_lt, if◌then◌else◌, Option, Some, None, slice_get}
@@ -90,7 +90,7 @@ sums_fit g (y ∷ ys) (suc i) x lt is =
       length-append (g (unit_view y)) (flat_map g (unit_views (take i ys))),
     )
 
--- ---- where an element stands
+-- ---- where an element is
 
 is_less : (a b : ℕ) → nat_lt a b ≡ true → a < b
 is_less a b h = grind arith
@@ -232,7 +232,7 @@ part_found xs r o e =
     (ap (λ ks. place_among ks r) (counts_same xs) ∙ sym e)
     (is_found unit_row_parts (λ x. length (unit_view x).lines) as_many_parts xs r)
 
--- ---- where rows and errors stand
+-- ---- where rows and errors are
 
 nowhere : UnitView
 nowhere = record { path = None; errors = []; paragraphs = []; lines = [] }

@@ -10,7 +10,7 @@ use Rattle.tx_bridge.specs.Reached.{unit_stays}
 use Rattle.tx_part_layout.specs.LaidParts.{is_before}
 use Rattle.tx_unit_layout.specs.LaidAts.{LaidAt, unit_items_anew}
 
--- the unit with what it comes to, where it is evaluated at this moment
+-- the unit with what it evaluates to at this moment
 abbrev pub entry_at : Moment → DocUnit → Entry
 entry_at m u = record { unit = u; trace = outcome_of m u }
 
@@ -19,7 +19,7 @@ entry_at m u = record { unit = u; trace = outcome_of m u }
 abbrev pub items_at : Moment → DocUnit → List Bool → List LaidAt → ℕ
 items_at m u fs ls = unit_items_anew (attributes_of m.env) (entry_at m u) (fresh_parts m u) fs ls
 
--- a unit is laid out anew where it doesn't stay, or was laid out for other attributes or not at all
+-- a unit is laid out anew where its trace isn't used again, or where it was laid out for other attributes or not at all
 abbrev pub is_relaid : Moment → Entry → KeptParts → Option Attrs → Bool
 is_relaid m e ks laid = not (unit_stays m e ks) || not (is_before laid (attributes_of m.env))
 

@@ -1,4 +1,4 @@
--- Units that are laid out, with what is kept of them. Private clauses cite these.
+-- Units that are laid out, with what is cached of them. Private clauses cite these.
 use Rattle.std.specs.Prelude.{◌≡◌, ℕ, ◌≤◌, ◌<◌, ◌+◌, ◌*◌, ◌^◌, ◌==◌, Bool, true, false, if◌then◌else◌, List, []}
 use Rattle.std.specs.Prelude.{◌∷◌, ◌++◌, map, length, Option, Some, None, is_some, option_and_then, slice_get, ◌⊎◌}
 use Rattle.std.specs.Global.{Vec}
@@ -45,7 +45,7 @@ laid_in xs = map (λ x. x.laid) xs
 abbrev pub laid_parts_in : List Shown → List (List LaidAt)
 laid_parts_in xs = map (λ x. map laid_at x.parts) xs
 
--- where nothing is laid out of parts that stand in no unit
+-- where the parts that are in no unit have no lines
 abbrev pub view_stores_in : Bridged → List Shown → ViewStores
 view_stores_in b xs = record {
   kept = b.kept;
@@ -56,11 +56,11 @@ view_stores_in b xs = record {
   laid_strays = [];
 }
 
--- where this is laid out of them
+-- where these are their lines
 abbrev pub all_stores_in : Bridged → List Shown → List PlacedPart → ViewStores
 all_stores_in b xs ps = record (view_stores_in b xs) { laid_strays = map laid_at ps }
 
--- each unit is laid out of what is kept of it
+-- each unit is laid out by what is cached of it
 abbrev pub AreLaid : ℕ → Kept → List KeptParts → List Shown → Type 0
 AreLaid width [] [] [] = Unit {0}
 AreLaid width [] [] (x ∷ xs) = ⊥
@@ -69,7 +69,7 @@ AreLaid width (e ∷ es) [] xs = ⊥
 AreLaid width (e ∷ es) (ks ∷ pss) [] = ⊥
 AreLaid width (e ∷ es) (ks ∷ pss) (x ∷ xs) = IsLaid width e ks ks x × AreLaid width es pss xs
 
--- so it was before the parts with flags were evaluated anew
+-- each unit was laid out by what was cached of it before the parts with flags were evaluated anew
 abbrev pub WereLaid : ℕ → Kept → List KeptParts → List (List Bool) → List Shown → Type 0
 WereLaid width [] [] [] [] = Unit {0}
 WereLaid width [] [] [] (x ∷ xs) = ⊥
@@ -80,7 +80,7 @@ WereLaid width (e ∷ es) (ks ∷ pss) [] xs = ⊥
 WereLaid width (e ∷ es) (ks ∷ pss) (fs ∷ fss) [] = ⊥
 WereLaid width (e ∷ es) (ks ∷ pss) (fs ∷ fss) (x ∷ xs) = WasLaid width e ks fs x × WereLaid width es pss fss xs
 
--- this is kept of unit i and of its parts, which have these flags
+-- this is cached of unit i and of its parts, which have these flags
 pub record IsUnit (b : Bridged) (i : ℕ) (e : Entry) (ks : KeptParts) (fs : List Bool) : Type 0 where
   pub entry : slice_get b.kept i ≡ Some e
   pub parts : slice_get b.parts i ≡ Some ks
@@ -109,8 +109,8 @@ without [] xs = xs
 without (f ∷ fs) [] = []
 without (f ∷ fs) (x ∷ xs) = unlaid f x ∷ without fs xs
 
--- One unit more is laid out, at the moment before it. `before` and `after` are the moment there and the one behind it,
--- x and y what was shown and what is shown, and `items` is how many items were laid out.
+-- One unit more is laid out, at the moment before it. `before` and `after` are the moment there and the one after it, x
+-- and y what was shown and what is shown, and `items` is how many items were laid out.
 pub record IsNext (width : ℕ) (e : Entry) (ks : KeptParts) (fs : List Bool) (before after : Moment) (x y : Shown)
     (items : ℕ) : Type 0 where
   pub behind_is : after ≡ behind before (outcome_of before e.unit)
@@ -122,13 +122,13 @@ pub record IsNext (width : ℕ) (e : Entry) (ks : KeptParts) (fs : List Bool) (b
   pub items_is : items ≡ items_unlaid before e.unit fs x
   pub most : items + 243 * after.left ≤ 243 * before.left + 49
 
--- ---- what is left for want of memory
+-- ---- what is left when out of memory
 
 -- nothing is laid out, of the unit or of its parts
 abbrev pub dropped : Shown → Shown
 dropped x = record x { laid = None; parts = [] }
 
--- where something was laid out of parts of the unit, nothing stays laid out, of it or of them
+-- where parts of the unit had lines, the layout of the unit and of its parts is dropped
 abbrev pub dropped_by : List PlacedPart → Shown → Shown
 dropped_by [] x = x
 dropped_by (p ∷ ps) x = dropped x
@@ -145,9 +145,9 @@ abbrev pub ArePartlyLaid : List (Option Attrs) → List (Option Attrs) → List 
 ArePartlyLaid old fresh new =
     (i : ℕ) → (slice_get new i ≡ slice_get old i) ⊎ (slice_get new i ≡ slice_get fresh i)
 
--- ---- what goes with units through an edit
+-- ---- what is carried with units through an edit
 
--- nothing is shown of a unit with this path but what is laid out of these parts
+-- nothing is shown of a unit with this path but these lines of parts
 pub record IsBlank (path : Option (List ℕ)) (ps : List WidePart) (x : Shown) : Type 0 where
   pub path_is : x.path ≡ path
   pub laid : x.laid ≡ None
@@ -163,34 +163,34 @@ AreBlank [] (x ∷ xs) = ⊥
 AreBlank (u ∷ us) [] = ⊥
 AreBlank (u ∷ us) (x ∷ xs) = IsBlank u.path [] x × AreBlank us xs
 
--- what is laid out of the parts of each unit, and last of those that stand in none
+-- the lines of the parts of each unit, and last of those that are in none
 abbrev pub PlacedLists : Type 0
 PlacedLists = List (List PlacedPart)
 
 abbrev pub placed_in : List Shown → List PlacedPart → PlacedLists
 placed_in xs ps = map (λ x. x.parts) xs ++ ps ∷ []
 
--- what is laid out of a part that has moved, as it is put where it stands now
+-- the lines of a part that has moved, as they are put where it is now
 abbrev pub wide_moved : PlacedLists → Move → Option WidePart
 wide_moved old m =
     option_map (put_at m.kept.path) (option_and_then (λ ps. slice_get ps m.number) (slice_get old m.from))
 
--- something is laid out of each
+-- each of the parts has lines
 abbrev pub all_wide : PlacedLists → List Move → Bool
 all_wide old moves = list_all (λ m. is_some (wide_moved old m)) moves
 
--- the moves with which what is laid out goes: all, or none if nothing is laid out of one of the parts
+-- the moves with which lines are carried: all, or none if one of the parts has no lines
 abbrev pub going : PlacedLists → List Move → List Move
 going old moves = if all_wide old moves then moves else []
 
 abbrev pub wide_in_unit : PlacedLists → ℕ → Move → Option WidePart
 wide_in_unit old j m = if m.to == j then wide_moved old m else None
 
--- what is laid out of the parts that have moved to the unit of number j, as it is put there
+-- the lines of the parts that have moved to the unit of number j, as they are put there
 abbrev pub wide_arrived : PlacedLists → List Move → ℕ → List WidePart
 wide_arrived old moves j = filter_map (wide_in_unit old j) moves
 
--- nothing is shown of the units, from number j on, but what is laid out of the parts that have moved to them
+-- nothing is shown of the units, from number j on, but the lines of the parts that have moved to them
 abbrev pub AreArrived : PlacedLists → List Move → ℕ → List DocUnit → List Shown → Type 0
 AreArrived old moves j [] [] = Unit {0}
 AreArrived old moves j [] (x ∷ xs) = ⊥
@@ -198,7 +198,8 @@ AreArrived old moves j (u ∷ us) [] = ⊥
 AreArrived old moves j (u ∷ us) (x ∷ xs) =
     IsBlank u.path (wide_arrived old moves j) x × AreArrived old moves (j + 1) us xs
 
--- So it is of all units, and behind the last one this is laid out of the parts that have moved to none.
+-- Nothing is shown of all the units but such lines, and after the last one these are the lines of the parts that have
+-- moved to none.
 abbrev pub HaveArrived : PlacedLists → List Move → List DocUnit → List Shown → List PlacedPart → Type 0
 HaveArrived old moves us xs ps =
     AreArrived old moves 0 us xs × (map wide_part ps ≡ wide_arrived old moves (length us))
@@ -209,7 +210,7 @@ HasShortPlaces p =
     AllByRecursion (λ line. All IsShort line.items) p.laid.value.lines
     × AllByRecursion (λ q. All IsShort q.items) p.laid.value.paragraphs.items
 
--- in y is what was in x, and what is laid out of one part more
+-- y has what x has, and the lines of one part more
 pub record HasMore (x y : Shown) (w : WidePart) : Type 0 where
   pub parts : map wide_part y.parts ≡ map wide_part x.parts ++ w ∷ []
   pub others : y ≡ record x { parts = y.parts }
@@ -228,39 +229,39 @@ moved [] old xs = xs
 moved (s ∷ ss) old [] = []
 moved (s ∷ ss) old (x ∷ xs) = taking_shown x (source_shown old s) ∷ moved ss old xs
 
--- What is laid out of the parts of the unit at the path, where the modifications of the tree t are all inside it: with
--- each part to where it stands afterwards.
+-- The lines of the parts of the unit at the path, where the modifications of the tree t are all inside it: each part's
+-- lines are moved to where the part is afterwards.
 abbrev pub parts_left : List Mod → WideTree → Option (List ℕ) → List PlacedPart → List WidePart
 parts_left ms t path ps =
     option_map_or (λ p. laid_by (map (carried_below ms t p) (laid_paths ps)) ps) path []
 
--- where parts of the unit that changes stand then, as a target tells it
+-- where parts of the unit that changes are then, as a target has it
 abbrev pub ToldPlaces : Type 0
 ToldPlaces = Vec (ℕ × Option (List ℕ))
 
--- it isn't laid out any more, and what is laid out of its parts is put where they stand afterwards
+-- its layout is dropped, and the lines of its parts are put where they are afterwards
 abbrev pub left_with : PartPlaces → Shown → Shown
 left_with places x = record x { laid = None; parts = put_along 0 places x.parts }
 
--- where the flag is set it is left so; else what was shown of it stays as it was
+-- where the flag is set it is left in this way; else what was shown of it is unchanged
 abbrev pub IsLeftBy : PartPlaces → Bool → Shown → Shown → Type 0
 IsLeftBy places true y x = x ≡ left_with places y
 IsLeftBy places false y x = x ≡ y
 
--- so it is of all units from number k on, where number i is left so
+-- what is shown of all units from number k on, where number i is left in this way
 abbrev pub StayBut : PartPlaces → ℕ → ℕ → List Shown → List Shown → Type 0
 StayBut places i k [] [] = Unit {0}
 StayBut places i k [] (x ∷ xs) = ⊥
 StayBut places i k (y ∷ ys) [] = ⊥
 StayBut places i k (y ∷ ys) (x ∷ xs) = IsLeftBy places (k == i) y x × StayBut places i (k + 1) ys xs
 
--- what stays laid out of parts that stand in no unit, where the unit of number i of these changes alone
+-- the lines that are left of parts that are in no unit, where the unit of number i of these changes alone
 abbrev pub placed_beside : ℕ → List DocUnit → List PlacedPart → List PlacedPart
 placed_beside i us ps = filter (λ p. is_beside (path_at i us) p.path) ps
 
--- Where what is shown stays in place, so are the parts left of the unit that has changed. Else it goes to blank
--- ones, to which went before what is laid out of parts that have moved. Of parts that stand in no unit `before` was
--- laid out, and `after` is.
+-- Where what is shown is unchanged in place, so are the parts left of the unit that has changed. Else it moves to blank
+-- ones, which had got the lines of parts that have moved. The parts that are in no unit had the lines `before`, and
+-- have `after`.
 abbrev pub IsLeft : List Mod → WideTree → List DocUnit → List Move → List DocUnit → Target → List Shown
     → List PlacedPart → List PlacedPart → Type 0
 IsLeft ms t us moves vs (InPlace i silent places) xs before after =
@@ -270,18 +271,18 @@ IsLeft ms t us moves vs (InPlace i silent places) xs before after =
 IsLeft ms t us moves vs (Onto blanks) xs before after =
     HaveArrived (placed_in xs before) (going (placed_in xs before) moves) vs blanks.items after
 
--- What is shown stays in place where each unit keeps its number and its path, but for one that has changed.
+-- What is shown is unchanged in place where each unit keeps its number and its path, but for one that has changed.
 abbrev pub IsTarget : List DocUnit → List DocUnit → List (Option ℕ) → Target → Type 0
 IsTarget us vs ss (InPlace i silent places) =
     (ss ≡ numbers_but i 0 (length vs)) × (map (λ v. v.path) vs ≡ map (λ u. u.path) us)
 IsTarget us vs ss (Onto blanks) = Unit {0}
 
--- none of what is laid out at these paths stands in a unit
+-- none of the parts that are laid out at these paths is in a unit
 abbrev pub AreLaidOutside : List DocUnit → List LaidAt → Type 0
 AreLaidOutside us ls = AllByRecursion (λ l. NoneAbove l.path us) ls
 
--- Where the unit of number i alone changes, and has the tree x then, what is left of what is laid out of parts, and of
--- strays, is what goes by its path.
+-- Where the unit of number i alone changes, and has the tree x then, the layout that is left of parts, and of strays,
+-- is what is carried by its path.
 unfoldable pub LaidGoes : ℕ → List Mod → WideTree → WideTree → List DocUnit → Type 0
 LaidGoes i ms t x us = (lss : List (List LaidAt)) (ls : List LaidAt) → length lss ≡ length us → AreLaidOutside us ls
     → (left_but ms t i us lss
@@ -295,7 +296,8 @@ pub record AreUnitsBut (i : ℕ) (ms : List Mod) (t : WideTree) (us vs : List Do
   pub are : vs ≡ units_with i tree us
   pub laid : LaidGoes i ms t tree us
 
--- It stays in place where one paragraph is found to change alone. Each new unit has the tree of the old one that it is.
+-- It is unchanged in place where one paragraph is found to change alone. Each new unit has the tree of the old one that
+-- it is.
 abbrev pub IsWay : ℕ → List Mod → WideTree → List DocUnit → List DocUnit → List (Option ℕ) → Target → Type 0
 IsWay buffer ms t us vs ss (InPlace i silent places) =
     (exchanged buffer ms t us ≡ Some i) × IsOneChanged i buffer ms us × HaveSameTrees us vs ss
@@ -306,18 +308,18 @@ abbrev pub IsFew : Target → Type 0
 IsFew (InPlace i silent places) = Unit {0}
 IsFew (Onto blanks) = length blanks.items < 2 ^ 32
 
--- what was shown has gone there
+-- what was shown has moved there
 abbrev pub HasGone : Target → List (Option ℕ) → List Shown → List Shown → Type 0
 HasGone (InPlace i silent places) ss old xs = StayBut places.items i 0 old xs
 HasGone (Onto blanks) ss old xs = xs ≡ moved ss old blanks.items
 
--- where `silent`, what was kept of the unit that has changed set no name
+-- where `silent`, the cached trace of the unit that has changed set no name
 abbrev pub SetNoName : Kept → Target → Type 0
 SetNoName kept (InPlace i silent places) =
     silent ≡ true → (e : Entry) → slice_get kept i ≡ Some e → (env : NameMap) → env_behind env e.trace ≡ env
 SetNoName kept (Onto blanks) = Unit {0}
 
--- it tells for which attributes unit i was laid out, and where it tells so, no line of it was the last of its page
+-- it says for which attributes unit i was laid out, and where it says so, no line of it was the last of its page
 pub record WasShown (old : List Shown) (i : ℕ) (f : Former) : Type 0 where
   pub number : f.unit ≡ i
   pub shown : Shown
@@ -325,7 +327,7 @@ pub record WasShown (old : List Shown) (i : ℕ) (f : Former) : Type 0 where
   pub laid : shown.laid ≡ Some f.attrs
   pub unmarked : f.unmarked ≡ true → All Unmarked (unit_view shown).lines
 
--- The view was fresh, and this unit alone has changed, of which what was kept set no name.
+-- The view was fresh, and this unit alone has changed, whose cached trace set no name.
 pub record IsFormer (to : Target) (fresh : Bool) (old : List Shown) (f : Former) : Type 0 where
   pub places : ToldPlaces
   pub target : to ≡ InPlace f.unit true places

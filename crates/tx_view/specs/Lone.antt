@@ -23,27 +23,27 @@ abbrev pub attributes_along : NameMap → List (Option WideTrace) → List (Opti
 attributes_along env [] = []
 attributes_along env (t ∷ ts) = Some (attributes_of env) ∷ attributes_along (env_behind env t) ts
 
--- All units are laid out for the attributes behind what is kept of those before them, but for number i, of which
--- nothing is kept and nothing laid out. Before it they are a.
+-- All units are laid out for the attributes after the cached traces of those before them, but for number i, which has
+-- no cached trace and no layout. Before it they are a.
 pub record IsLone (kept : Kept) (xs : List Shown) (i : ℕ) (a : Attrs) : Type 0 where
   pub nothing_kept : slice_get (traces_of kept) i ≡ Some None
   pub nothing_laid : slice_get (laid_in xs) i ≡ Some None
   pub attributes : slice_set (laid_in xs) i (Some a) ≡ attributes_along empty (traces_of kept)
 
--- of n units none but number i was evaluated anew, and what was kept of the others stays
+-- of n units none but number i was evaluated anew, and what was cached of the others is unchanged
 pub record IsAlone (i n : ℕ) (old new : Kept) (flags : List Bool) : Type 0 where
   pub no_flag : (k : ℕ) → k < n → (k ≡ i → ⊥) → unwrap_or (slice_get flags k) false ≡ false
   pub stays : (k : ℕ) → k < n → (k ≡ i → ⊥) → slice_get new k ≡ slice_get old k
 
 -- ---- pages
 
--- these are the pages of units on pages of this height, and how many rows and errors stand before each
+-- these are the pages of units on pages of this height, and how many rows and errors come before each
 pub record IsPaged (height : ℕ) (xs : List UnitView) (p : Pagination) : Type 0 where
   pub pages : PagesFrom (lines_of xs) height 0 p.pages.items
   pub rows : p.rows.items ≡ sums_from 0 (row_counts xs)
   pub errors : p.errors.items ≡ sums_from 0 (error_counts xs)
 
--- These were the pages while the lone unit was as it was last laid out, and where it tells so, no line of it was the
+-- These were the pages while the lone unit was as it was last laid out, and where it says so, no line of it was the
 -- last of its page.
 pub record WerePages (height : ℕ) (xs : List UnitView) (l : Lone) : Type 0 where
   pub there : l.unit < length xs
@@ -51,11 +51,11 @@ pub record WerePages (height : ℕ) (xs : List UnitView) (l : Lone) : Type 0 whe
   pub paged : IsPaged height (slice_set xs l.unit former) l.paged
   pub unmarked : l.unmarked ≡ true → All Unmarked former.lines
 
--- the pages stay, whatever their height
+-- the pages are unchanged, whatever their height
 abbrev pub KeepPages : Lone → List Shown → List Shown → Type 0
 KeepPages l xs ys = (height : ℕ) → WerePages height (unit_views xs) l → IsPaged height (unit_views ys) l.paged
 
--- between these numbers of sums, i and the next one, n more stand
+-- the next of these sums after number i is larger by n
 pub record IsGap (sums : List ℕ) (i n : ℕ) : Type 0 where
   pub before : ℕ
   pub first : slice_get sums i ≡ Some before

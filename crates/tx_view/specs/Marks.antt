@@ -32,7 +32,7 @@ stops_at path (Some m) = both_ends path m
 abbrev pub stops_on : List ℕ → List Mark → List Place
 stops_on path ms = flat_map (both_ends path) ms
 
--- ---- places that are told from the path of their unit
+-- ---- places that are given from the path of their unit
 
 abbrev pub spot_place : BasedPlace → Place
 spot_place s = record { path = whole_path s; offset = s.offset }
@@ -40,7 +40,7 @@ spot_place s = record { path = whole_path s; offset = s.offset }
 abbrev pub spot_places : List BasedPlace → List Place
 spot_places ss = map spot_place ss
 
--- ---- the code by which proofs tell marks apart
+-- ---- the code by which proofs distinguish marks
 
 abbrev pub coded_Mark : Coded Mark
 coded_Mark =

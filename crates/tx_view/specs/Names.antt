@@ -14,7 +14,7 @@ use Rattle.tx_view.specs.Costs.{items_relaid_from}
 use Rattle.tx_view.specs.LaidMoves.{laid_moves, laid_arrived, all_laid_now, AreAllOrNoneLaid}
 use Rattle.tx_view.specs.Stores.{ViewStores, fresh_stores}
 
--- nothing is kept of the units of these buffers
+-- nothing is cached of the units of these buffers
 unfoldable pub Empty : List Buffer → ViewStores
 Empty buffers = record {
   kept = nothing_kept (units buffers);
@@ -29,15 +29,15 @@ Empty buffers = record {
 unfoldable pub Fresh : List Buffer → ViewStores
 Fresh buffers = fresh_stores (units buffers)
 
--- What a refresh takes: what the units are charged, which for a paragraph of the body are the costs of the parts of
--- which nothing that fits is kept, and for another unit its cost where nothing that fits is kept of it, and the items
--- of those laid out anew, which for a paragraph that isn't over are those of the parts of which nothing that fits is
--- kept, or that aren't laid out for the attributes before them.
+-- What a refresh takes: the charges of the units, and the items of those laid out anew. The charge of a paragraph of
+-- the body is the costs of the parts for which nothing that is cached fits. That of another unit is its cost, where
+-- nothing that is cached fits it. The items of a paragraph that doesn't run out of steps are those of the parts for
+-- which nothing that is cached fits, or that aren't laid out for the attributes before them.
 unfoldable pub Bound : ViewStores → ℕ
 Bound s = Charge s.kept s.parts + items_relaid_from beginning s.kept s.parts s.laid s.laid_parts
 
--- What stays of what is kept, where the modifications of a buffer make the new buffers of the old ones: of units, of
--- their parts and of strays. What is laid out of a part goes by its path, each by itself.
+-- What is left of the cache, where the modifications of a buffer make the new buffers of the old ones: of units, of
+-- their parts and of strays. The layout of a part is carried by its path, each by itself.
 unfoldable pub Carry : ℕ → List Mod → List Buffer → ViewStores → List Buffer → ViewStores
 Carry buffer ms old s new = record {
   kept = CarryKept buffer ms (tree_of old buffer) s.kept (units new);
@@ -58,9 +58,9 @@ Carry buffer ms old s new = record {
       (length (units new));
 }
 
--- What is kept is of the units of these buffers, of their parts, and of strays, which are places of the document. The
--- trace of a unit, of a part or of a stray is that of its tree wherever what it looked up is as it was. What is laid
--- out is of just the parts and strays that are kept, or nothing is.
+-- What is cached is of the units of these buffers, of their parts, and of strays, which are places of the document. The
+-- trace of a unit, of a part or of a stray is that of its tree wherever what it looked up is as it was. Just the parts
+-- and strays that are cached are laid out, or none is.
 unfoldable pub Holds : List Buffer → ViewStores → Type 0
 Holds buffers s =
     AllHold s.kept × AllPartsHold s.kept s.parts × (units_of s.kept ≡ units buffers)

@@ -1,4 +1,4 @@
--- A part of a list of stops that tells what is beside a place as the whole list does.
+-- A part of a list of stops that decides what is beside a place as the whole list does.
 use Rattle.std.specs.Prelude.{◌≡◌, ℕ, ◌+◌, ◌-◌, ◌<◌, ◌≤◌, nat_eq, Bool, false, true, List, [], ◌++◌, length, take, drop}
 use Rattle.std.specs.Prelude.{Option, None, Some}
 use Rattle.std.specs.List.{list_any, starts_with}
@@ -9,8 +9,8 @@ use Rattle.tx_view_form.specs.Stops.{stops_of}
 use Rattle.tx_view.specs.Units.{unit_views}
 use Rattle.tx_unit_layout.specs.declared.shown.Shown.{Shown}
 
--- Some of all stops, one behind the other, in which the place has the stops beside it that it has among all. Where it
--- is none of them it is none of all, and the first of them is the first of all.
+-- Some of all stops, in order, in which the place has the stops beside it that it has among all. Where it is none of
+-- them it is none of all, and the first of them is the first of all.
 pub record AreNear (all near : List Place) (at : Place) : Type 0 where
   pub before : List Place
   pub behind : List Place
@@ -44,7 +44,7 @@ pub record HasNeighbours (stops : List Place) (at : Place) (from_start to_end : 
 
 -- ---- units
 
--- a unit with this path stands above the place, or at it
+-- a unit with this path is above the place, or at it
 abbrev pub is_above : Option (List ℕ) → Place → Bool
 is_above None at = false
 is_above (Some path) at = starts_with nat_eq at.path path

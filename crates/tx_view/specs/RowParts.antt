@@ -23,8 +23,8 @@ abbrev pub shown_parts_at : Moment → DocUnit → List ShownPart
 shown_parts_at m u =
     if is_by_parts (entry_at m u) then shown_parts_of (attributes_of m.env) (entry_at m u) (fresh_parts m u) else []
 
--- Of each row of a unit that shows so, the path of the part that shows it. Behind the rows of its parts stand those
--- that it has besides, each with an empty path.
+-- Of each row of a unit that shows so, the path of the part that shows it. After the rows of its parts come those that
+-- it has besides, each with an empty path.
 pub record AreUnitRowParts (width : ℕ) (m : Moment) (u : DocUnit) (x : UnitView) (rows : List (List ℕ)) : Type 0 where
   pub of_parts : List (List ℕ)
   pub are : AreLineParts width (shown_parts_at m u) of_parts
@@ -32,7 +32,7 @@ pub record AreUnitRowParts (width : ℕ) (m : Moment) (u : DocUnit) (x : UnitVie
   pub is : rows ≡ of_parts ++ replicate others []
   pub as_many : length rows ≡ length x.lines
 
--- so it is of all units, from a moment on
+-- the paths of the rows of all units, from a moment on
 pub data AreRowParts (width : ℕ) : Moment → List DocUnit → List UnitView → List (List ℕ) → Type 0 where
   no_units : (m : Moment) → AreRowParts width m [] [] []
   unit_then : (m : Moment) (u : DocUnit) (us : List DocUnit) (x : UnitView) (xs : List UnitView)

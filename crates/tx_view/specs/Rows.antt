@@ -1,4 +1,4 @@
--- Where rows and errors stand among units.
+-- Where rows and errors are among units.
 use Rattle.std.specs.Prelude.{◌≡◌, ℕ, ◌<◌, List, length, map, slice_get, slice_index_or, Option, Some, None}
 use Rattle.std.specs.List.{flat_map}
 use Rattle.tx_view_form.specs.Views.{lines_of}

@@ -14,9 +14,9 @@ use Rattle.tx_bridge.specs.Entries.{Entry, Kept, fresh_from, outcome_of}
 use Rattle.tx_unit_layout.specs.LaidAts.{LaidAt, laid_ats, coded_laid_ats}
 use Rattle.tx_view.specs.Costs.{entry_at}
 
--- Of each unit the trace that it came to last, the traces of its parts, the attributes for which it was laid out last,
--- if it was, and those for which parts of it were. Of parts that stand in no unit, each with its path in the document,
--- the traces, and the attributes for which they were laid out.
+-- Of each unit the trace to which it was last evaluated, the traces of its parts, the attributes for which it was laid
+-- out last, if it was, and those for which parts of it were. Of parts that are in no unit, each with its path in the
+-- document, the traces, and the attributes for which they were laid out.
 pub record ViewStores : Type 0 where
   pub kept : Kept
   pub parts : List KeptParts
@@ -47,7 +47,7 @@ fresh_stores us = record {
   laid_strays = [];
 }
 
--- ---- what a refresh leaves that lacked memory
+-- ---- what a refresh leaves that ran out of memory
 
 -- of unit i trace and attributes are those that the other stores have
 pub record HasUnitOf (stores other : ViewStores) (i : ℕ) : Type 0 where
@@ -55,8 +55,8 @@ pub record HasUnitOf (stores other : ViewStores) (i : ℕ) : Type 0 where
   pub laid : slice_get stores.laid i ≡ slice_get other.laid i
 
 -- The units before number `done` have the traces of the fresh stores, and the others those of the old ones. A unit is
--- laid out as in the old stores, and has their trace, or as in the fresh ones, and has theirs, or it isn't laid out.
--- Of parts nothing is. What is kept of parts that stand in no unit is as in the old stores, or nothing.
+-- laid out as in the old stores, and has their trace, or as in the fresh ones, and has theirs, or it isn't laid out. No
+-- part is laid out. The cache of parts that are in no unit is as in the old stores, or empty.
 pub record IsPartlyFresh (old fresh new : ViewStores) : Type 0 where
   pub done : ℕ
   pub kept : new.kept ≡ take done fresh.kept ++ drop done old.kept
@@ -66,7 +66,7 @@ pub record IsPartlyFresh (old fresh new : ViewStores) : Type 0 where
   pub strays : (new.strays ≡ old.strays) ⊎ (new.strays ≡ [])
   pub laid_strays : new.laid_strays ≡ []
 
--- ---- the code by which proofs tell them apart
+-- ---- the code by which proofs distinguish them
 
 abbrev pub coded_Stores : Coded ViewStores
 coded_Stores =

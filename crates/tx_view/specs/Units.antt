@@ -1,4 +1,4 @@
--- What is kept of units, as the view has it.
+-- What is cached of units, as the view has it.
 use Rattle.std.specs.Prelude.{ℕ, ◌+◌, ◌-◌, nat_lt, List, [], ◌∷◌, map, length, Option, None, Some}
 use Rattle.std.specs.Prelude.{if◌then◌else◌}
 use Rattle.std.specs.List.{AllByRecursion}
@@ -12,7 +12,7 @@ use Rattle.tx_unit_layout.specs.declared.shown.Shown.{Shown}
 abbrev pub unit_views : List Shown → List UnitView
 unit_views xs = map unit_view xs
 
--- its parts tell how many lines stand above them
+-- its parts know how many lines are above them
 abbrev pub IsBelow : Shown → Type 0
 IsBelow x = AreBelow 0 x.parts
 
@@ -27,7 +27,7 @@ row_counts xs = map (λ x. length x.lines) xs
 abbrev pub error_counts : List UnitView → List ℕ
 error_counts xs = map (λ x. length x.errors) xs
 
--- of lists with so many elements, the one in which an element of all stands, and its number there
+-- of lists with so many elements, the one that holds an element of all, and its number there
 abbrev pub place_among : List ℕ → ℕ → Option (ℕ × ℕ)
 place_among [] k = None
 place_among (n ∷ ns) k = if nat_lt k n then Some (0, k) else option_map (λ p. (p.0 + 1, p.1)) (place_among ns (k - n))

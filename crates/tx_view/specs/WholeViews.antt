@@ -34,7 +34,7 @@ use Rattle.tx_unit_layout.specs.Views.{IsReadable}
 use Rattle.tx_view.specs.declared.view.View.TheInside.{Inside}
 
 -- the buffers, the size of pages, whether it is fresh, what is shown, of each row the path of the part that shows it,
--- what is kept from refresh to refresh, and by how many steps the last refresh that ended raised the count
+-- what is cached from refresh to refresh, and by how many steps the last refresh that ended raised the count
 pub record WholeView : Type 0 where
   pub buffers : List Buffer
   pub width : ℕ
@@ -94,7 +94,7 @@ pub record IsKept (v : Inside) : Type 0 where
   pub below : All IsBelow v.units.items
   pub apart : AreAllApart (unit_views v.units.items)
 
--- ---- the code by which proofs tell views apart
+-- ---- the code by which proofs distinguish views
 
 abbrev unit_code : Coded UnitView
 unit_code = code_by (Option (List ℕ) × (List ErrorAt × (List Paragraph × List Line)))

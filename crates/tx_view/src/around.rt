@@ -1,4 +1,4 @@
-// The stops near a place, without those of units that stand far from it.
+// The stops near a place, without those of units that are far from it.
 ghost use Rattle.std.specs.Prelude.{◌≡◌, ◌<◌, ◌≤◌, [], take, drop, length, All, IfOk, IfSome};
 ghost use Rattle.std.specs.List.{position};
 ghost use Rattle.tx_units.specs.Units.{units};
@@ -89,7 +89,7 @@ fn up_to_placed(units: &[Shown]) -> usize
     units.len()
 }
 
-// From which unit to which the stops near a place are those of all that tell what is beside it.
+// From which unit to which the stops near a place are those of all units that decide what is beside it.
 fn range_near(alloc: Global, units: &[Shown], at: &Place) -> Result<(usize, usize), Memory>
     requires readable { All IsReadable units.now }
     requires apart { AreAllApart (unit_views units.now) }

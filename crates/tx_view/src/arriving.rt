@@ -1,4 +1,4 @@
-// What is laid out of parts that have moved goes with them. Strays are parts that stand in no unit.
+// The lines of parts that have moved to other units move with them. Strays are parts that are in no unit.
 ghost use Rattle.std.specs.Prelude.{◌≡◌, List, [], ◌∷◌, ◌++◌, map, Some, None, if◌then◌else◌, MatchOption, OnOk};
 ghost use Rattle.std.specs.Prelude.{slice_get};
 ghost use Rattle.std.specs.Option.{option_map};
@@ -14,7 +14,7 @@ use tx_part_layout::PlacedPart;
 use tx_tree::Path;
 use tx_unit_layout::{LaidParts, Shown};
 
-// What is laid out of the parts of the unit of this number, or behind the last one of the strays.
+// The lines of the parts of the unit of this number, or of the strays at the number after the last unit.
 fn placed_at<'a>(old: &'a [Shown], strays: &'a [PlacedPart], i: usize) -> Option<&'a [PlacedPart]>
     ensures { option_map (λ ps. ps.now) result ≡ slice_get (placed_in old.now strays.now) i }
 {
@@ -24,7 +24,7 @@ fn placed_at<'a>(old: &'a [Shown], strays: &'a [PlacedPart], i: usize) -> Option
     Some(old.get(i)?.parts.all())
 }
 
-// What is laid out of the part.
+// The lines of the part, if it has any.
 fn laid_part<'a>(old: &'a [Shown], strays: &'a [PlacedPart], m: &PartMove) -> Option<&'a PlacedPart>
     ensures { MatchOption result (wide_moved (placed_in old.now strays.now) (seen_move m.now) ≡ None)
         (λ p. wide_moved (placed_in old.now strays.now) (seen_move m.now) ≡ Some (put_at m.now.part.path p.now)) }
@@ -32,7 +32,7 @@ fn laid_part<'a>(old: &'a [Shown], strays: &'a [PlacedPart], m: &PartMove) -> Op
     placed_at(old, strays, m.from)?.get(m.number)
 }
 
-// Something is laid out of each of the parts.
+// Whether each of the parts has lines.
 fn are_laid(old: &[Shown], strays: &[PlacedPart], moves: &[PartMove]) -> bool
     ensures { result ≡ all_wide (placed_in old.now strays.now) (map seen_move moves.now) }
 {
@@ -44,14 +44,14 @@ fn are_laid(old: &[Shown], strays: &[PlacedPart], moves: &[PartMove]) -> bool
     true
 }
 
-// Puts what is laid out of a part to this path in the unit.
+// Puts the lines of a part at this path in the unit.
 fn put_in(alloc: Global, part: &PlacedPart, path: &Path, shown: &mut Shown) -> Result<(), Memory>
     ensures { OnOk result (HasMore shown.old shown.new (put_at path.now part.now)) }
 {
     shown.parts.add(alloc, part, path)
 }
 
-// What is laid out of the part, if something is, goes to its new unit, or to the strays where it stands in none.
+// The lines of the part, if it has any, move to its new unit, or to the strays where it is in none.
 fn put_one(
     alloc: Global,
     old: &[Shown],
@@ -76,8 +76,7 @@ fn put_one(
     Ok(())
 }
 
-// What is laid out of the parts goes to their new units and strays, of which nothing is laid out, if something is of
-// each.
+// If each of the parts has lines, the lines move to their new units and strays, which have none before.
 fn put_all(
     alloc: Global,
     old: &[Shown],
@@ -99,9 +98,8 @@ fn put_all(
     Ok(())
 }
 
-/// What is laid out of these parts of units that are shown, or else hidden, and of strays, goes to the new units and
-/// strays as which they stand now, of which nothing is laid out, if something is of each part. After want of memory
-/// nothing is said of the new ones.
+/// If each of these parts of units, shown or else hidden, and of strays has lines, the lines move to the units and
+/// strays in which the parts are now. Those have no lines before. After `Memory` nothing is said of the new ones.
 pub(crate) fn put_either(
     alloc: Global,
     fresh: bool,

@@ -19,7 +19,7 @@ use tx_origin::{Ip, Spot};
 use tx_tree::{Path, Place};
 use tx_unit_layout::Shown;
 
-// So many spots before one and behind it are looked at first.
+// So many spots before one and after it are looked at first.
 const BESIDE: usize = 2;
 
 // Whether an origin may be what follows so many of these steps: it is as long, and ends alike. False says that it is
@@ -148,7 +148,7 @@ fn stop_number(stops: &[Place], at: &Place) -> Option<usize>
     stops.iter().position(|stop| same_place(at, stop))
 }
 
-// Whether the place is one of the stops, and has one before it, unless they begin as all do, and one behind it, unless
+// Whether the place is one of the stops, and has one before it, unless they begin as all do, and one after it, unless
 // they end so.
 fn has_neighbours(stops: &[Place], at: &Place, from_start: bool, to_end: bool) -> bool
     ensures { IsTrue result → HasNeighbours stops.now at.now from_start to_end }
@@ -162,7 +162,7 @@ fn has_neighbours(stops: &[Place], at: &Place, from_start: bool, to_end: bool) -
     to_end || number + 1 < stops.len()
 }
 
-// The stops beside the place, which is spot k, where few of the spots beside that tell them.
+// The stops beside the place, which is spot k, where few of the spots beside it decide them.
 fn stops_around(
     alloc: Global,
     spots: &[Spot<'_>],
@@ -182,7 +182,7 @@ fn stops_around(
 }
 
 /// Some of the stops of units, in which the place has those beside it that it has among all. Few paths are made where
-/// few of the clusters beside the place stand in the document more than once.
+/// few of the clusters beside the place occur in the document more than once.
 pub(crate) fn stops_beside(alloc: Global, units: &[Shown], at: &Place) -> Result<Vec<Place>, Memory>
     requires { All IsReadable units.now }
     ensures { IfOk result (λ ps. AreNear (stops_of (unit_views units.now)) ps.items at.now) }

@@ -1,4 +1,4 @@
-// What is shown of units, and of strays, which are parts that stand in no unit, goes with them through an edit.
+// What is shown of units, and of strays, which are parts that are in no unit, is carried through an edit.
 ghost use Rattle.std.specs.Prelude.{◌≡◌, ℕ, [], ◌+◌, ◌≤◌, ◌<◌, ◌^◌, length, slice_get, take, if◌then◌else◌, IfOk};
 ghost use Rattle.std.specs.Prelude.{OnOk, OnErr, Some, None, IfSome, IsTrue, MatchOption, true, false, All, option_map};
 ghost use Rattle.tx_tree.specs.WideTree.{WideTree};
@@ -53,7 +53,7 @@ fn with_tree(
     Ok(all)
 }
 
-// The unit, of which nothing is laid out.
+// The unit without a layout.
 fn blank(alloc: Global, unit: &Unit) -> Result<Shown, Memory>
     ensures { IfOk result (λ x. IsBlank unit.now.path [] x) }
 {
@@ -67,7 +67,7 @@ fn blank(alloc: Global, unit: &Unit) -> Result<Shown, Memory>
     })
 }
 
-/// The units, of which nothing is laid out.
+/// The units without a layout.
 pub(crate) fn blanks(alloc: Global, units: &[Unit]) -> Result<Vec<Shown>, Memory>
     ensures { IfOk result (λ all. AreBlank units.now all.items) }
 {
@@ -115,7 +115,8 @@ fn move_all(new: &mut [Shown], bridges: &Bridges, old: &mut [Shown])
     }
 }
 
-// The same, of the units that are shown, or else of the hidden ones.
+// Gives what is shown of the old units to the new ones, where the old ones are the units that are shown, or else the
+// hidden ones.
 fn move_either(
     new: &mut [Shown],
     bridges: &Bridges,
@@ -135,7 +136,7 @@ fn move_either(
     }
 }
 
-/// The one unit that has changed since the view was fresh, where what was kept of it set no name: its number, the
+/// The one unit that has changed since the view was fresh, where its cached trace set no name: its number, the
 /// attributes for which it was laid out, and whether none of its lines was the last of a page. False says nothing.
 #[derive(Drop)]
 pub(crate) struct Former {
@@ -144,8 +145,8 @@ pub(crate) struct Former {
     pub(crate) unmarked: bool,
 }
 
-// The unit isn't laid out any more, and what is laid out of its parts goes to these places. Answers for which
-// attributes it was, and whether no line was the last of its page.
+// Drops the layout of the unit, and moves the lines of its parts to these places. Returns for which attributes it was
+// laid out, and whether no line was the last of its page.
 fn reset(shown: &mut Shown, places: Vec<(usize, Option<Path>)>) -> (Option<Attrs>, bool)
     ensures shown { shown.new ≡ left_with places.items shown.old }
     ensures attrs { result.0 ≡ shown.old.laid }
@@ -156,7 +157,7 @@ fn reset(shown: &mut Shown, places: Vec<(usize, Option<Path>)>) -> (Option<Attrs
     (mem::replace(&mut shown.laid, None), unmarked)
 }
 
-// So it is of the unit of this number.
+// Drops the layout of the unit of this number, and moves the lines of its parts to these places.
 fn reset_at(all: &mut [Shown], unit: usize, places: Vec<(usize, Option<Path>)>) -> Option<Former>
     ensures stay { StayBut places.items unit 0 all.old all.new }
     ensures former { IfSome result (λ f. WasShown all.old unit f) }
@@ -173,7 +174,7 @@ fn reset_at(all: &mut [Shown], unit: usize, places: Vec<(usize, Option<Path>)>) 
     None
 }
 
-// What is shown of all units stays, or else what is hidden, but this one isn't laid out any more.
+// Carries what is shown of all units unchanged, or else what is hidden, but drops the layout of this one.
 fn move_in_place(
     unit: usize,
     places: Vec<(usize, Option<Path>)>,
@@ -192,9 +193,9 @@ fn move_in_place(
     reset_at(hidden, unit, places)
 }
 
-/// Where what is shown of units goes through an edit: it stays in place, but for this one unit, or it goes to these,
-/// of which nothing is laid out. Of that one unit it is said whether what was kept of it is known to set no name, and
-/// where parts of it stand then, as `LaidParts::put` takes them.
+/// Where what is shown of units goes through an edit. It is unchanged in place but for one unit, or it moves to these
+/// units, which have no layout. Of that one unit it is said whether its cached trace is known to set no name, and where
+/// its parts are then, as `LaidParts::put` takes them.
 #[derive(Drop)]
 pub(crate) enum Target {
     InPlace(usize, bool, Vec<(usize, Option<Path>)>),
@@ -214,7 +215,7 @@ fn former_of(silent: bool, fresh: bool, former: Option<Former>) -> Option<Former
     former
 }
 
-// What is shown goes to these, or else what is hidden, and is hidden then.
+// What is shown moves to these, or else what is hidden, and is hidden then.
 fn move_onto(
     blanks: Vec<Shown>,
     bridges: &Bridges,
@@ -233,8 +234,8 @@ fn move_onto(
     *hidden = new;
 }
 
-/// What is shown of the units, or else what is hidden, goes with them, and is hidden then. It takes no memory. Answers
-/// which one has changed alone since the view was fresh, if that is known.
+/// What is shown of the units, or else what is hidden, is carried with them, and is hidden then. It takes no memory.
+/// Returns which one has changed alone since the view was fresh, if that is known.
 pub(crate) fn move_shown(
     target: Target,
     bridges: &Bridges,
@@ -262,7 +263,7 @@ pub(crate) fn move_shown(
     }
 }
 
-// The tree that stands where the unit's paragraph stood, if it is found to leave all other units.
+// The tree that is now where the unit's paragraph was, if it is found to leave all other units.
 fn paragraph_now<'a>(unit: &Unit, tree: &'a Tree) -> Option<&'a Tree>
     ensures { MatchOption result (stays_alone tree.now unit.now ≡ false)
         (λ x. IsNow unit.now tree.now x.now × (stays_alone tree.now unit.now ≡ true)) }
@@ -304,8 +305,8 @@ fn exchanged(
     }
 }
 
-// What is kept of the old units goes to those of the buffers afterwards, of which nothing is laid out but what is of
-// parts of other old units, which goes with these. The units of the base style are shared.
+// Carries what is cached of the old units to those of the buffers after the edit. The new units have no lines but those
+// of parts of other old units, which are carried with these. The units of the base style are shared.
 fn carried_anew<L: Ledger>(
     alloc: Global,
     bridges: &mut Bridges,
@@ -377,7 +378,7 @@ fn carried_anew<L: Ledger>(
     Ok(new)
 }
 
-// What is kept of the unit of this number sets no name. False says nothing.
+// Whether the cached trace of the unit of this number sets no name. False says nothing.
 fn is_silent_at(bridges: &Bridges, unit: usize) -> bool
     requires { unit < 2 ^ 32 }
     ensures { IsTrue result → (e : Entry) → slice_get bridges.now.kept unit ≡ Some e → IsSilent e.trace }
@@ -388,7 +389,7 @@ fn is_silent_at(bridges: &Bridges, unit: usize) -> bool
     }
 }
 
-// Where the part stands, if there is one.
+// The path of the part, if there is one.
 fn place_told(alloc: Global, part: &Option<Part>) -> Result<Option<Path>, Memory>
     ensures { IfOk result (λ o. o ≡ option_map (λ d. d.path) part.now) }
 {
@@ -398,7 +399,7 @@ fn place_told(alloc: Global, part: &Option<Part>) -> Result<Option<Path>, Memory
     }
 }
 
-// Where parts of these numbers stand then, which are told themselves.
+// The numbers of these parts, with the paths at which they are then.
 fn places_told(
     alloc: Global,
     moved: &[(usize, Option<Part>)],
@@ -413,7 +414,8 @@ fn places_told(
     Ok(places)
 }
 
-// What is laid out of strays stays where the unit of this number changes alone, but of those whose trees hold it.
+// Where the unit of this number changes alone, the strays' lines are unchanged, but those of strays whose trees hold
+// the unit are dropped.
 fn keep_beside(bridges: &Bridges, unit: usize, strays: &mut LaidParts)
     requires { unit < 2 ^ 32 }
     ensures { strays.new ≡ placed_beside unit (units_of bridges.now.kept) strays.old }
@@ -426,8 +428,8 @@ fn keep_beside(bridges: &Bridges, unit: usize, strays: &mut LaidParts)
     }
 }
 
-// A law: where the unit of this number alone changes, and has this tree then, what is left of what is laid out of parts
-// goes by its path.
+// A law: where the unit of this number alone changes, and has this tree then, the lines of parts that are left are
+// carried by their paths.
 fn laid_goes_law(bridges: &Bridges, before: &Tree, mods: &[Mod], tree: &Tree, changed: usize)
     requires applies { (u : WideTree) × (changed_by_all mods.now before.now ≡ Some u) }
     requires units { AreUnits (units_of bridges.now.kept) }
@@ -437,7 +439,8 @@ fn laid_goes_law(bridges: &Bridges, before: &Tree, mods: &[Mod], tree: &Tree, ch
     in_place_law();
 }
 
-// What is kept of the old units goes to those of the buffers after the edit, and what is shown is to go to the target.
+// Carries what is cached of the old units to those of the buffers after the edit. Returns the target to which what is
+// shown is to move.
 fn carried_kept<L: Ledger>(
     alloc: Global,
     bridges: &mut Bridges,
@@ -516,8 +519,9 @@ fn carried_kept<L: Ledger>(
     }
 }
 
-/// The buffers after an edit of one of them, and where what is shown of the units is to go. What is kept of the old
-/// units goes with them, and what is kept and laid out of strays goes to where they stand.
+/// The buffers after an edit of one of them, and where what is shown of the units is to move. What is cached of the old
+/// units is carried with them. What is cached of strays, and their lines, are carried to the places where they are
+/// then.
 pub(crate) fn carried<L: Ledger>(
     alloc: Global,
     bridges: &mut Bridges,

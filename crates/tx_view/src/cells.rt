@@ -1,4 +1,4 @@
-// What stands at a column of a line.
+// The cluster or the place at a column of a line.
 ghost use Rattle.std.specs.Prelude.{◌≡◌, ◌+◌, ◌≤◌, ◌^◌, ◌<◌, length, MatchOption, None, Some, option_and_then};
 ghost use Rattle.tx_view_form.specs.Cells.{items_before, item_number, item_at, drawn_in, drawn_at};
 
@@ -20,7 +20,7 @@ pub fn drawn_in(item: &Item) -> Option<&Drawn>
     }
 }
 
-/// The number of the item of a line that covers a column, or of the first behind it.
+/// The number of the item of a line that covers a column, or of the first after it.
 pub(crate) fn item_number(line: &Line, column: u32) -> usize
     ensures number { result ≡ item_number line.now column }
     ensures within { result ≤ length line.now.items }

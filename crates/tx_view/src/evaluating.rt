@@ -1,4 +1,4 @@
-// Units evaluated anew, where nothing fits, and what is laid out of them forgotten.
+// Units are evaluated anew, where nothing that is cached fits, and their layout is dropped.
 ghost use Rattle.std.specs.Prelude.{◌≡◌, ◌+◌, ◌≤◌, ◌<◌, ◌^◌, length, slice_get, All, IfOk, OnOk, OnErr, true, false};
 ghost use Rattle.std.specs.Prelude.{ℕ, [], map, IsTrue, None};
 ghost use Rattle.std.specs.Option.{unwrap_or};
@@ -43,8 +43,7 @@ fn still_alone(alone: bool, reached: bool, is_lone: bool) -> bool
     alone
 }
 
-// What was laid out of units that were evaluated anew isn't theirs any more. If it answers true, none but number `lone`
-// was.
+// Drops the layout of units that were evaluated anew. If it returns true, none but number `lone` was.
 fn forget_reached(units: &mut [Shown], bridges: &Bridges, lone: usize) -> bool
     requires few { length units.old < 2 ^ 32 }
     ensures shown { units.new ≡ without bridges.now.reached units.old }
@@ -70,7 +69,7 @@ fn forget_all(units: &mut [Shown])
     }
 }
 
-// Nothing is laid out of the parts, and if something was, nothing of the unit.
+// Drops the lines of the parts, and if there were some, the layout of the unit.
 fn forget_parts(shown: &mut Shown)
     ensures { shown.new ≡ dropped_by shown.old.parts shown.old }
 {
@@ -81,7 +80,7 @@ fn forget_parts(shown: &mut Shown)
     shown.parts.forget();
 }
 
-/// Nothing is laid out of parts, and nothing of units of whose parts something was.
+/// Drops the lines of all parts, and the layout of the units whose parts had lines.
 pub(crate) fn forget_all_parts(units: &mut [Shown])
     ensures { units.new ≡ without_parts units.old }
 {
@@ -90,8 +89,8 @@ pub(crate) fn forget_all_parts(units: &mut [Shown])
     }
 }
 
-/// Evaluates the units of which nothing fits. What was laid out of them isn't theirs any more. Answers the charges, and
-/// whether no other unit than number `lone` was evaluated anew. False says nothing.
+/// Evaluates the units for which nothing that is cached fits, and drops their layout. Returns the charges, and whether
+/// no other unit than number `lone` was evaluated anew. False says nothing.
 #[tactic(auto, unfolding(tx_bridge::specs::Names::FreshTraces, tx_bridge::specs::Names::FreshParts))]
 pub(crate) fn evaluate<L: Ledger>(
     alloc: Global,

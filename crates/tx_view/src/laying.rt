@@ -1,4 +1,4 @@
-// Units laid out one behind the other, each by what is kept of it.
+// Units laid out in order, each from its cached trace.
 ghost use Rattle.std.specs.Prelude.{◌≡◌, ◌+◌, ◌≤◌, ◌<◌, ◌^◌, length, slice_get, All, IfOk, OnOk, OnErr, Some, true};
 ghost use Rattle.std.specs.Prelude.{Bool, List, map, if◌then◌else◌, IsTrue};
 ghost use Rattle.std.specs.Str.{bytes_eq};
@@ -40,8 +40,8 @@ use tx_units::Unit;
 use tx_view_form::weight_laws;
 use tx_walk::Part;
 
-// Lays a unit out that comes to this at some moment and has these parts then, unless it is laid out for these
-// attributes, and answers how many items were laid out.
+// Lays out a unit that evaluates to this at some moment and has these parts then, unless it is laid out for these
+// attributes. Returns how many items were laid out.
 fn lay<L: Ledger>(
     alloc: Global,
     unit: &Unit,
@@ -81,7 +81,7 @@ fn lay<L: Ledger>(
     lay_unit(alloc, unit, outcome, parts, own, shown, width, steps)
 }
 
-// Lays the unit of this number out, before which the attributes are these, and goes behind it. Answers how many items
+// Lays out the unit of this number, where these are the attributes before it, and passes it. Returns how many items
 // were laid out.
 fn lay_next<L: Ledger>(
     alloc: Global,
@@ -127,7 +127,7 @@ fn lay_next<L: Ledger>(
     Ok(items)
 }
 
-// Takes the attributes before the unit of this number to those behind it, where the moment is the one behind it.
+// Takes the attributes before the unit of this number to those after it, where the moment is the one after it.
 fn pass_attributes(
     alloc: Global,
     variables: &Variables,
@@ -152,8 +152,8 @@ fn pass_attributes(
     Ok(())
 }
 
-// Lays all units out that aren't laid out for the attributes before them, the first at this moment with these
-// attributes. Answers how many items were laid out.
+// Lays out all units that aren't laid out for the attributes before them, the first at this moment with these
+// attributes. Returns how many items were laid out.
 fn lay_each<L: Ledger>(
     alloc: Global,
     variables: &Variables,
@@ -207,7 +207,7 @@ fn lay_each<L: Ledger>(
     Ok(items)
 }
 
-// The same, where it begins at the first unit.
+// Lays out the units in order, from the first one on.
 fn lay_from_start<L: Ledger>(
     alloc: Global,
     variables: &Variables,
@@ -253,7 +253,7 @@ fn lay_from_start<L: Ledger>(
     )
 }
 
-/// Lays all units out that aren't laid out for the attributes before them, and answers how many items were laid out.
+/// Lays out all units that aren't laid out for the attributes before them, and returns how many items were laid out.
 pub(crate) fn lay_all<L: Ledger>(
     alloc: Global,
     bridges: &Bridges,

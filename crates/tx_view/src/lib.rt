@@ -1,4 +1,4 @@
-//! The view of a document: its pages, its errors, and the places behind its cells.
+//! The view of a document: its pages, its errors, and the places of its cells.
 //!
 //! What a view is says `IsView` of `tx_view_form`. [`View::refresh`] makes it from the present buffers, and uses again
 //! what was evaluated and laid out before, where it still fits.

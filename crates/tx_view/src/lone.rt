@@ -61,7 +61,7 @@ pub(crate) fn lone_of(former: Option<Former>, paged: Pagination) -> Option<Lone>
     })
 }
 
-// Whether n more stand between these sums, number i and the next one.
+// Whether the next of these sums after number i is larger by n.
 fn is_gap(sums: &[u32], i: usize, n: u64) -> bool
     ensures { IsTrue result → IsGap sums.now i n }
 {
@@ -93,8 +93,8 @@ fn is_alike(lone: &Lone, shown: &Shown) -> bool
     is_gap(&lone.paged.errors, lone.unit, shown.errors.len() as u64)
 }
 
-// Lays a unit out that comes to this at some moment and has these parts then. Answers how many items were laid out, and
-// whether what is shown is alike.
+// Lays out a unit that evaluates to this at some moment and has these parts then. Returns how many items were laid out,
+// and whether what is shown is alike.
 fn lay_anew<L: Ledger>(
     alloc: Global,
     unit: &Unit,
@@ -133,8 +133,8 @@ fn lay_anew<L: Ledger>(
     Ok((items, is_alike(lone, shown)))
 }
 
-// Lays the unit of this number out, which is the only one that isn't, and before which the attributes are these.
-// Answers how many items were laid out, and whether the pages stay.
+// Lays out the unit of this number, which is the only one without a layout, where these are the attributes before it.
+// Returns how many items were laid out, and whether the pages are unchanged.
 fn lay_only<L: Ledger>(
     alloc: Global,
     bridges: &Bridges,
@@ -227,7 +227,7 @@ pub(crate) fn lay_if<L: Ledger>(
     lay_only(alloc, bridges, lone, units, width, steps)
 }
 
-// A unit comes to a trace that sets no name.
+// Whether a unit evaluates to a trace that sets no name.
 fn is_quiet(outcome: &Outcome) -> bool
     ensures { IsTrue result → (t : WideTrace) × (wide_outcome outcome.now ≡ Some t)
         × IsSilent (wide_outcome outcome.now) }
@@ -238,7 +238,7 @@ fn is_quiet(outcome: &Outcome) -> bool
     }
 }
 
-// The unit of this number comes to a trace that sets no name.
+// Whether the unit of this number evaluates to a trace that sets no name.
 fn comes_quietly(bridges: &Bridges, unit: usize) -> bool
     requires { unit < 2 ^ 32 }
     ensures { IsTrue result → (t : WideTrace) × (slice_get (traces_of bridges.now.kept) unit ≡ Some (Some t))
@@ -250,7 +250,7 @@ fn comes_quietly(bridges: &Bridges, unit: usize) -> bool
     }
 }
 
-/// No other unit was evaluated anew, and this one comes to a trace that sets no name.
+/// Whether no other unit was evaluated anew, and this one evaluates to a trace that sets no name.
 pub(crate) fn is_alone_quietly(alone: bool, bridges: &Bridges, unit: usize) -> bool
     requires { unit < 2 ^ 32 }
     ensures alone { IsTrue result → alone ≡ true }

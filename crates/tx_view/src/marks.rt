@@ -17,7 +17,7 @@ use tx_origin::Ip;
 use tx_tree::Path;
 use tx_unit_layout::Shown;
 
-/// A cluster that has a place: the part in which its text stands, if its place is told from one, the origin of the text
+/// A cluster that has a place: the part that holds its text, if its place is given from one, the origin of the text
 /// there, and where it begins and ends in it. Contracts see the origin from the tree of its unit.
 #[derive(Drop)]
 pub(crate) struct Mark<'a> {

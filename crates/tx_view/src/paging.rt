@@ -1,4 +1,4 @@
-// The pages of units, and how many rows and errors stand before each.
+// The pages of units, and how many rows and errors come before each.
 ghost use Rattle.std.specs.Prelude.{◌≡◌, ◌≤◌, ◌<◌, ◌^◌, [], ◌∷◌, All, length, IfOk};
 ghost use Rattle.tx_view_form.specs.Views.{lines_of};
 ghost use Rattle.tx_view_form.specs.Errors.{errors_of};
@@ -13,7 +13,7 @@ use tx_layout::Paginator;
 use tx_lines::Cut;
 use tx_unit_layout::Shown;
 
-/// The pages of units, how many rows and how many errors stand before each unit, and how many there are.
+/// The pages of units, how many rows and how many errors come before each unit, and how many there are.
 #[derive(Drop)]
 pub(crate) struct Pagination {
     pub(crate) pages: Vec<Cut>,

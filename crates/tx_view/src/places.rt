@@ -1,4 +1,4 @@
-// The place behind a column of a row of a unit.
+// The place at a column of a row of a unit.
 ghost use Rattle.std.specs.Prelude.{◌≡◌, ◌+◌, ◌++◌, ◌≤◌, ◌<◌, All, Some, length, map, take, drop, slice_get};
 ghost use Rattle.std.specs.Prelude.{option_and_then, option_copied};
 ghost use Rattle.std.specs.Option.{option_map};
@@ -22,7 +22,7 @@ use tx_origin::{Base, Spot};
 use tx_tree::Path;
 use tx_unit_layout::Shown;
 
-/// The path of a unit, and that of a part behind it.
+/// The path of a unit, and that of a part below it.
 pub(crate) fn base_of<'a>(path: &'a Path, part: Option<&'a Path>) -> Base<'a>
     ensures { result ≡ path.now ++ part_or_root (option_copied part.entry) }
 {
@@ -46,8 +46,8 @@ fn stop_of<'a>(path: &'a Path, mark: &Mark<'a>) -> Spot<'a>
     Spot::behind(base_of(path, mark.part), Some(mark.origin), mark.stop)
 }
 
-// The place behind the last cluster before an item of line i of a stretch of a unit, which has these items, or else of
-// the first behind it, or else the unit.
+// The place of the last cluster before an item of line i of a stretch of a unit, which has these items, or else of the
+// first after it, or else the unit.
 fn nearest<'a>(
     path: &'a Path,
     shown: &'a Shown,
@@ -92,7 +92,7 @@ fn covering<'a>(part: Option<&'a Path>, line: &'a Line, column: u32) -> Option<M
     }
 }
 
-// The place behind a column of line i of the stretch of number k of a unit.
+// The place at a column of line i of the stretch of number k of a unit.
 fn place_on<'a>(path: &'a Path, shown: &'a Shown, k: usize, i: usize, column: u32) -> Spot<'a>
     requires there { (s : WideStretch) × (slice_get (stretches shown.now) k ≡ Some s) × (i < length s.lines) }
     requires short { All (λ line. All IsShort line.items) (unit_view shown.now).lines }
@@ -111,7 +111,7 @@ fn place_on<'a>(path: &'a Path, shown: &'a Shown, k: usize, i: usize, column: u3
     }
 }
 
-/// The place behind a column of a row of a unit with this path.
+/// The place at a column of a row of a unit with this path.
 pub(crate) fn place_in<'a>(path: &'a Path, shown: &'a Shown, row: usize, column: u32) -> Spot<'a>
     requires there { row < length (unit_view shown.now).lines }
     requires below { AreBelow 0 shown.now.parts }

@@ -25,7 +25,8 @@ use tx_bridge::Bridges;
 use tx_exec_form::trace_laws;
 use tx_unit_layout::Shown;
 
-// Evaluates the units of which nothing fits, and lays all units out. Answers by how much the steps rose.
+// Evaluates the units for which nothing that is cached fits, and lays out all units. Returns by how much the steps
+// rose.
 fn lay_out_all<L: Ledger>(
     alloc: Global,
     bridges: &mut Bridges,
@@ -66,7 +67,8 @@ fn lay_out_all<L: Ledger>(
     Ok(charges + items)
 }
 
-// The same, where one unit alone has changed since all were laid out. Answers besides whether the pages stay.
+// Lays out the units, where one alone has changed since all were laid out. Also returns whether the pages are
+// unchanged.
 fn lay_out_lone<L: Ledger>(
     alloc: Global,
     bridges: &mut Bridges,
@@ -116,8 +118,8 @@ fn lay_out_lone<L: Ledger>(
     Ok((work + rest, false))
 }
 
-// Evaluates the units of which nothing fits, and lays those out that aren't laid out as they should be, one alone or
-// all. For want of memory what is laid out of parts is to be dropped.
+// Evaluates the units for which nothing that is cached fits, and lays out those that aren't laid out as they should be,
+// one alone or all. When out of memory the lines of parts are to be dropped.
 fn lay_out_by<L: Ledger>(
     alloc: Global,
     bridges: &mut Bridges,
@@ -165,9 +167,9 @@ fn lay_out_by<L: Ledger>(
     }
 }
 
-/// Evaluates the units of which nothing fits, and lays those out that aren't laid out as they should be. Answers by how
-/// much the steps rose, and whether the pages of the units stay, which are in `lone`. For want of memory nothing is
-/// laid out of parts.
+/// Evaluates the units for which nothing that is cached fits, and lays out those that aren't laid out as they should
+/// be. Returns by how much the steps rose, and whether the pages of the units, which are in `lone`, are unchanged. When
+/// out of memory no part has lines.
 pub(crate) fn lay_out<L: Ledger>(
     alloc: Global,
     bridges: &mut Bridges,

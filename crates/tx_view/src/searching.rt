@@ -1,4 +1,4 @@
-// Rows and errors by their numbers: in which unit each stands.
+// Rows and errors by their numbers: the unit that holds each.
 ghost use Rattle.std.specs.Prelude.{◌≡◌, ◌≤◌, ◌<◌, ◌^◌, ℕ, List, All, length, slice_index, IfOk};
 ghost use Rattle.tx_view_form.specs.Views.{lines_of};
 ghost use Rattle.tx_view_form.specs.Errors.{errors_of};
@@ -11,7 +11,7 @@ use std::alloc::Global;
 use tx_base::Memory;
 use tx_unit_layout::Shown;
 
-/// How many rows stand before each unit, and how many there are.
+/// How many rows come before each unit, and how many there are.
 pub(crate) fn first_rows(alloc: Global, units: &[Shown]) -> Result<Vec<u32>, Memory>
     requires few { length (lines_of (unit_views units.now)) < 2 ^ 32 }
     requires below { All IsBelow units.now }
@@ -58,7 +58,7 @@ pub(crate) fn error_count(firsts: &[u32], units: &[Shown]) -> u32
     firsts[firsts.len() - 1]
 }
 
-// The unit in which the thing of this number stands, by how many stand before each unit, and its number there.
+// The unit that holds the thing of this number, by how many come before each unit, and its number there.
 fn unit_of(firsts: &[u32], number: u32) -> Option<(usize, usize)>
     requires some { 1 ≤ length firsts.now }
     requires first { slice_index firsts.now 0 ≡ 0 }
@@ -81,7 +81,7 @@ fn unit_of(firsts: &[u32], number: u32) -> Option<(usize, usize)>
     Some((low, (number - firsts[low]) as usize))
 }
 
-/// The number of the unit in which a row stands, and the number of the row there.
+/// The number of the unit that holds a row, and the number of the row there.
 pub(crate) fn row_in(firsts: &[u32], units: &[Shown], row: u32) -> Option<(usize, usize)>
     requires { firsts.now ≡ sums_from 0 (row_counts (unit_views units.now)) }
     ensures { IsRowOfUnit units.now row result }
@@ -89,7 +89,7 @@ pub(crate) fn row_in(firsts: &[u32], units: &[Shown], row: u32) -> Option<(usize
     unit_of(firsts, row)
 }
 
-/// The number of the unit in which an error stands, and the number of the error there.
+/// The number of the unit that holds an error, and the number of the error there.
 pub(crate) fn error_in(firsts: &[u32], units: &[Shown], number: u32) -> Option<(usize, usize)>
     requires { firsts.now ≡ sums_from 0 (error_counts (unit_views units.now)) }
     ensures { IsError units.now number result }

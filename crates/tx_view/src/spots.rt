@@ -1,4 +1,4 @@
-// Where the clusters of units begin and end, one behind the other, without a path of their own.
+// Where the clusters of units begin and end, in order, without a path of their own.
 ghost use Rattle.std.specs.Prelude.{◌≡◌, ◌++◌, All, IfOk, OnOk, is_some, map, option_copied};
 ghost use Rattle.std.specs.List.{flat_map};
 ghost use Rattle.tx_part_items.specs.ItemsUnder.{item_under, paragraph_under};
@@ -130,7 +130,7 @@ fn add_unit<'a>(spots: &mut Vec<Spot<'a>>, unit: &'a Shown) -> Result<(), Memory
     add_stretches(spots, path, unit)
 }
 
-/// The places at which a cursor stops in units, in order, and each as often as it stands there.
+/// The places at which a cursor stops in units, in order, and each as often as it occurs there.
 pub(crate) fn spots_of<'a>(alloc: Global, units: &'a [Shown]) -> Result<Vec<Spot<'a>>, Memory>
     requires { All IsReadable units.now }
     ensures { IfOk result (λ ss. spot_places ss.items ≡ flat_map unit_stops (unit_views units.now)) }

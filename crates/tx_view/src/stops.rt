@@ -18,7 +18,7 @@ use tx_origin::Spot;
 use tx_tree::Place;
 use tx_unit_layout::Shown;
 
-// A place, which is told from others by its path and its offset.
+// A place, which differs from others by its path and its offset.
 #[derive(Drop)]
 struct Stop {
     place: Place,

@@ -55,7 +55,7 @@ use tx_unit_layout::{LaidParts, Shown};
 use tx_units::{unit_count_law, units};
 
 /// The view of buffers on pages of some width and height. It is fresh where it was made anew since the buffers changed
-/// last. All readers answer by what the last refresh made, and take no memory; before one they show nothing.
+/// last. All readers return what the last refresh made, and take no memory; before one they show nothing.
 ///
 /// Contracts see besides what it keeps from refresh to refresh (`specs/Stores.antt`), and the steps of the last
 /// refresh.
@@ -65,17 +65,17 @@ pub struct View {
     width: u32,
     height: u32,
     fresh: bool,
-    // what is kept of the evaluations of all units
+    // what is cached of the evaluations of all units
     bridges: Bridges,
     // what is shown of each unit, and nothing where it isn't fresh
     units: Vec<Shown>,
     // what was shown of each unit before the buffers changed, and nothing where it is fresh
     hidden: Vec<Shown>,
-    // what is laid out of strays, the parts that stand in no unit, by their paths in the document: of each, or of none
+    // the lines of strays, the parts that are in no unit, by their paths in the document: of each, or of none
     strays: LaidParts,
     // the pages of what is shown
     paged: Pagination,
-    // the one unit that has changed since the view was fresh, if it is known that all others stay
+    // the one unit that has changed since the view was fresh, if it is known that all others are unchanged
     lone: Option<Lone>,
     // by how many steps the last refresh that ended raised the count
     work: u64,
@@ -93,7 +93,7 @@ impl Model for View {
     ghost invariant = { IsKept };
 }
 
-// The pages of units: those that were kept, where they stay, and else those that are cut anew.
+// The pages of units: the former ones, where they are unchanged, and else those that are cut anew.
 fn paged_again(
     alloc: Global,
     units: &[Shown],
@@ -119,8 +119,8 @@ fn paged_again(
     Ok(lone.paged)
 }
 
-// Lays the units of the buffers out, and tells their pages and by how much the steps rose. Where one alone has changed
-// since all were laid out, the pages may stay. For want of memory nothing is laid out of parts.
+// Lays out the units of the buffers, and returns their pages and by how much the steps rose. Where one alone has
+// changed since all were laid out, the pages may be unchanged. When out of memory no part has lines.
 fn made_anew<L: Ledger>(
     alloc: Global,
     buffers: &[Buffer],
@@ -172,10 +172,10 @@ fn made_anew<L: Ledger>(
 }
 
 impl View {
-    /// A view of these buffers, which isn't fresh: it has no rows, no pages and no errors, and nothing is kept. It
+    /// A view of these buffers, which isn't fresh: it has no rows, no pages and no errors, and nothing is cached. It
     /// keeps the names and shares the trees. Buffer 0 is the document, and the others are loaded styles, 63 at most. A
     /// page has 20 to 500 columns and 5 to 500 rows. The steps rise by at most the nodes that are made for units. The
-    /// one error is want of memory.
+    /// one error is `Memory`.
     pub fn new<L: Ledger>(
         alloc: Global,
         buffers: &[Buffer],
@@ -219,15 +219,16 @@ impl View {
         })
     }
 
-    /// From then on the view is one of its buffers with this tree in place of that of buffer `buffer`, which these
-    /// modifications make of the former one, applied one after the other. It isn't fresh and shows nothing. What is
-    /// kept of a unit goes with it, and what is kept of its parts too: a paragraph of the document goes by the
-    /// modifications from path to path, and another unit stays the one of its number, where kind and tree are the same.
-    /// A paragraph whose subtree isn't carried by them, or is carried to a place that is no paragraph, loses its trace.
-    /// Its parts, and strays, which are the parts that stand in no paragraph since an edit, are carried each by itself:
-    /// to the paragraph in which it stands then, or it is a stray. Where its subtree isn't carried, what is kept of it
-    /// is dropped. So it is with what is laid out of a part, by its path alone. The steps rise by at most the paths'
-    /// lengths, three for each modification, and the nodes that are made for units. For want of memory all stays.
+    /// From then on the view is one of its buffers with this tree in place of that of buffer `buffer`. These
+    /// modifications make it of the former one, applied in order. The view isn't fresh and shows nothing. What is
+    /// cached of a unit and of its parts is carried with it. A paragraph of the document is carried by the
+    /// modifications from path to path. Another unit is the one of the same number, where kind and tree are the same. A
+    /// paragraph whose subtree isn't carried by them, or is carried to a place that is no paragraph, loses its trace.
+    /// Its parts are carried each by itself, and so are strays, which are the parts that have been in no paragraph
+    /// since an edit. A part moves to the paragraph that holds it then, or it is a stray. Where its subtree isn't
+    /// carried, what is cached of it is dropped. The lines of a part are carried, or dropped, by its path alone. The
+    /// steps rise by at most the paths' lengths, three for each modification, and the nodes that are made for units.
+    /// When out of memory nothing changes.
     pub fn edited<L: Ledger>(
         &mut self,
         alloc: Global,
@@ -280,17 +281,18 @@ impl View {
         Ok(())
     }
 
-    /// Makes the view anew, unless it is fresh, which takes no memory and no step then. What was kept of a unit is used
-    /// again where what it looked up is as it was and its cost is allowed, and its lines where its attributes are those
-    /// of before. So it is of the parts of a paragraph of the body that is evaluated or laid out anew. The steps rise
-    /// by the charges of the other units, which for such a paragraph are the costs of the other parts, and the items of
-    /// those that are laid out anew. Of a paragraph of the body that isn't over these are the items of the parts that
-    /// are evaluated anew, or aren't laid out for the attributes before them. Afterwards there are no strays.
+    /// Makes the view anew, unless it is fresh, which takes no memory and no step then. What is cached of a unit is
+    /// used again where what it looked up is as it was and its cost is allowed. Its lines are used again where its
+    /// attributes are those of before. For the parts of a paragraph of the body that is evaluated or laid out anew
+    /// these two rules hold as well. The steps rise by the charges of the other units, which for such a paragraph are
+    /// the costs of the other parts, and by the items of those that are laid out anew. For a paragraph of the body that
+    /// doesn't run out of steps these are the items of the parts that are evaluated anew, or aren't laid out for the
+    /// attributes before them. Afterwards there are no strays.
     ///
-    /// For want of memory it isn't fresh, and a later refresh is right. The units before some number, and their parts,
+    /// When out of memory it isn't fresh, and a later refresh is right. The units before some number, and their parts,
     /// have then the traces of the present buffers, and the others what they had. A unit that is laid out then has both
-    /// the trace and the attributes that it had, or both of the present buffers. What is kept of strays is as before,
-    /// or nothing is. Of parts nothing is laid out then.
+    /// the trace and the attributes that it had, or both of the present buffers. What is cached of strays is as before,
+    /// or nothing is. No part has lines then.
     pub fn refresh<L: Ledger>(&mut self, alloc: Global, steps: &mut Steps<L>) -> Result<(), Memory>
         ensures fresh { OnOk result (self.new.fresh ≡ true) }
         ensures view { OnOk result (IsView self.new.buffers self.new.width self.new.height self.new.shown) }
@@ -333,10 +335,10 @@ impl View {
         Ok(())
     }
 
-    /// Whether it is fresh. At every moment, also behind a refresh that lacked memory, what is kept is of the units of
-    /// the present buffers, or of strays that stand in the document, and the trace of a unit, or of a part or a stray,
-    /// is that of its tree in each environment that agrees with what it looked up. What is laid out is of just the
-    /// parts and strays that are kept, or nothing is.
+    /// Whether it is fresh. At every moment, also after a refresh that ran out of memory, what is cached is of the
+    /// units of the present buffers, or of strays that are in the document. The cached trace of a unit, of a part or of
+    /// a stray is that of its tree in each environment that agrees with what it looked up. Just the parts and strays
+    /// that are cached have lines, or none has.
     pub fn fresh(&self) -> bool
         ensures fresh { result ≡ self.now.fresh }
         ensures view { IsTrue result → IsView self.now.buffers self.now.width self.now.height self.now.shown }
@@ -377,7 +379,7 @@ impl View {
         &self.paged.pages
     }
 
-    /// The line in row r, or None past the last row. The places of its clusters are told from `base(r)`.
+    /// The line in row r, or None past the last row. The places of its clusters are given from `base(r)`.
     pub fn line(&self, r: u32) -> Option<&Line>
         ensures { let found = slice_get (lines_of self.now.shown.units) r in
             MatchOption result (found ≡ None) (λ l. (part : List ℕ) × (slice_get self.now.row_parts r ≡ Some part)
@@ -389,7 +391,7 @@ impl View {
         shown.stretch(stretch).lines.get(own)
     }
 
-    /// The cluster that covers column c of row r, or None where nothing is drawn there. Its place is told from
+    /// The cluster that covers column c of row r, or None where nothing is drawn there. Its place is given from
     /// `base(r)`.
     pub fn cell(&self, r: u32, c: u32) -> Option<&Drawn>
         ensures { let found = option_and_then (λ line. drawn_at line c) (slice_get (lines_of self.now.shown.units) r) in
@@ -416,8 +418,8 @@ impl View {
         Some((shown.path.as_ref(), &shown.errors[number]))
     }
 
-    /// The path from which places in row r are told, or None past the last row: that of the part that shows the row, or
-    /// that of the unit where none does.
+    /// The path from which places in row r are given, or None past the last row: that of the part that shows the row,
+    /// or that of the unit where none does.
     pub fn base(&self, r: u32) -> Option<Base<'_>>
         ensures { MatchOption result (slice_get (lines_of self.now.shown.units) r ≡ None)
             (IsBase self.now.shown.units self.now.row_parts r) }
@@ -429,7 +431,7 @@ impl View {
         Some(base_of(path, shown.stretch(stretch).part))
     }
 
-    /// The place of the document behind column c of row r, or None past the last row or column.
+    /// The place of the document at column c of row r, or None past the last row or column.
     pub fn position(&self, r: u32, c: u32) -> Option<Spot<'_>>
         ensures { option_map spot_place result
             ≡ option_map spot_place (position_in self.now.shown.units self.now.width r c) }
@@ -450,10 +452,10 @@ impl View {
         stops_of(alloc, &self.units)
     }
 
-    /// Some of the stops, one behind the other, in which a place has the stops beside it that it has among all. For a
-    /// place that is no stop they are the first ones, and none only where there are no stops. Of units other than that
-    /// of the place, the nearest one before with a path and the nearest one behind, only the paths are looked at. The
-    /// one error is want of memory.
+    /// Some of the stops, in order, in which a place has the stops beside it that it has among all. For a place that is
+    /// no stop they are the first ones, and none only where there are no stops. Of units other than that of the place,
+    /// the nearest one before with a path and the nearest one after, only the paths are looked at. The one error is
+    /// `Memory`.
     pub fn stops_near(&self, alloc: Global, at: &Place) -> Result<Vec<Place>, Memory>
         ensures { IfOk result (λ ps. AreNear (stops_of self.now.shown.units) ps.items at.now) }
     {

@@ -1,4 +1,4 @@
--- What stands behind a path of a tree, and the places of well formed trees.
+-- What is below a path of a tree, and the places of well formed trees.
 use Rattle.std.proofs.Common.{◌≡◌, ℕ, zero, suc, List, [], ◌∷◌, ◌++◌, Option, Some, None, refl, sym, ap, subst, arith}
 use Rattle.std.specs.Prelude.{slice_get, option_and_then, IsSomeAnd}
 use Rattle.tx_tree.specs.Texts.{IsCut}

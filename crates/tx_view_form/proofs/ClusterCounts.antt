@@ -135,7 +135,7 @@ most_behind (Some name) (b ∷ bs) =
 
 -- ---- the bytes of a label
 
--- no byte behind ASCII's signs
+-- no byte from 127 on
 too_late : (b : ℕ) → 127 ≤ b → is_label_byte b ≡ false
 unfolding is_label_byte
 too_late b h =

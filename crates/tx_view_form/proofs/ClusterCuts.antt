@@ -11,12 +11,12 @@ use Rattle.tx_text.specs.Displays.{item_text}
 use Rattle.tx_text.specs.Clusters.{items_of, item_start, item_end}
 use Rattle.tx_text.proofs.Reading.{items_again}
 
--- what holds of both answers of a test
+-- what holds for both values of a test
 either : (P : ℕ → Type 0) (b : Bool) (x y : ℕ) → P x → P y → P (cond b x y)
 either P true x y p q = p
 either P false x y p q = q
 
--- a place of which these items stand before it and these behind
+-- a place, with these items before it and these after it
 record IsSeam (whole front items : List Item) (n : ℕ) : Type 0 where
   parts : whole ≡ front ++ items
   place : n ≡ length (flat_map item_bytes front)
@@ -34,7 +34,7 @@ cut_there whole front items n h = (
   h.place,
 )
 
--- behind one item more
+-- after one item more
 next_seam : (whole front items : List Item) (item : Item) (n : ℕ) → IsSeam whole front (item ∷ items) n
     → IsSeam whole (front ++ item ∷ []) items (n + length (item_bytes item))
 next_seam whole front items item n h =

@@ -46,7 +46,7 @@ pub record HasPlaces (document : WideTree) (path : List ℕ) (x : UnitView) : Ty
 abbrev pub ArePlaces : WideTree → UnitView → Type 0
 ArePlaces document x = (path : List ℕ) → x.path ≡ Some path → HasPlaces document path x
 
--- ---- texts of a value, where its tree stands at the path and the root is its origin
+-- ---- texts of a value, where its tree is at the path and the root is its origin
 
 module _ (document : WideTree) (formed : IsWellFormed document) (path : List ℕ) (t : TaggedTree)
     (there : subtree document path ≡ Some t.tree) (at_root : t.at ≡ Some []) where

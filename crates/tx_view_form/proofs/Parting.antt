@@ -1,4 +1,4 @@
--- The lines of the first of some paragraphs, and of those behind it.
+-- The lines of the first of some paragraphs, and of those after it.
 use Rattle.std.proofs.Common.{◌≡◌, ℕ, List, [], ◌∷◌, ◌++◌, refl}
 use Rattle.tx_items.specs.declared.drawing.Paragraph.{Paragraph}
 use Rattle.tx_layout.specs.declared.layout.Line.{Line}

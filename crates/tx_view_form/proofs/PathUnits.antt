@@ -16,7 +16,7 @@ use Rattle.tx_units.specs.Units.{unit, base_units, loaded_units, absent_unit, na
 use Rattle.tx_units.specs.Units.{initial_units, body_units, front_units, units}
 use Rattle.tx_units.proofs.Placing.{body_stands}
 
--- where the unit has a path, it stands in the document
+-- where the unit has a path, it is in the document
 abbrev pub Stands : WideTree → DocUnit → Type 0
 Stands document u = (path : List ℕ) → u.path ≡ Some path → UnitStandsIn document u
 

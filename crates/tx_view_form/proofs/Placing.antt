@@ -66,7 +66,7 @@ mark_here Q line c all m e =
 
 -- ---- positions
 
--- the unit in which a row stands is one of all
+-- the unit that a row is in is one of all
 row_there : (R : UnitView → Type 0) (xs : List UnitView) (r : ℕ) (p : UnitView × ℕ) → AllByRecursion R xs
     → row_in xs r ≡ Some p → R p.0
 row_there R [] r p h e = absurd cc

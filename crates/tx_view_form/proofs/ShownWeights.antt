@@ -25,7 +25,7 @@ pub value_weight : (a : Attrs) (v : WideValue) → IsWellFormed (plain v)
     → weight_of (shown_paragraphs a v) ≤ 242 * size_of (plain v)
 value_weight a v h = labelled_weight a v (labelled (plain v) h)
 
--- ---- a unit that is over
+-- ---- a unit that runs out
 
 over_form : (a : Attrs) → (show a over_value).form ≡ inline (run_of a (error_items a (codes "over") []))
 unfolding show rule_of

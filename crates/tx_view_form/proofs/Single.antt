@@ -21,7 +21,7 @@ use Rattle.tx_view_form.proofs.Parting.{IsParted, parted}
 abbrev pub OneShape : Type 0
 OneShape = (p : Paragraph) (width : ℕ) (xs ys : List Line) → IsShape p width xs → IsShape p width ys → xs ≡ ys
 
--- and lines have one list of pages
+-- lines have one list of pages
 abbrev pub OnePaging : Type 0
 OnePaging = (lines : List Line) (height : ℕ) (xs ys : List Cut) → PagesFrom lines height 0 xs
     → PagesFrom lines height 0 ys → xs ≡ ys

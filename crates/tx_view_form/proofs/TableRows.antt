@@ -59,7 +59,7 @@ item_covers line front back x c e low high =
     ap (λ b. cond b None (slice_get line.items (item_number line c))) (lt_no c line.indent (omega arith))
     ∙ ap (λ k. slice_get line.items k) number ∙ ap (λ l. slice_get l (length front)) e ∙ got_at front back x
 
--- ---- a row of a table stands in one line
+-- ---- a row of a table is one line
 
 record EndsInGap (items : List Item) : Type 0 where
   front : List Item

@@ -1,4 +1,4 @@
--- What stands at a row and a column.
+-- What is at a row and a column.
 use Rattle.std.specs.Prelude.{ℕ, ◌+◌, ◌-◌, nat_lt, nat_le, List, [], ◌∷◌, length, Option, Some, None, option_and_then}
 use Rattle.std.specs.Prelude.{slice_get, if◌then◌else◌}
 use Rattle.tx_items.specs.declared.drawing.Drawn.{Drawn}
@@ -8,7 +8,7 @@ use Rattle.tx_layout.specs.declared.layout.Line.{Line}
 use Rattle.tx_items.specs.Cells.{item_cells}
 use Rattle.tx_view_form.specs.Views.{UnitView}
 
--- the unit in which a row of all stands, and the number of the row in it
+-- the unit that a row of all is in, and the number of the row in it
 abbrev pub row_in : List UnitView → ℕ → Option (UnitView × ℕ)
 row_in [] r = None
 row_in (x ∷ xs) r = if nat_lt r (length x.lines) then Some (x, r) else row_in xs (r - length x.lines)
@@ -19,7 +19,7 @@ items_before from [] c = 0
 items_before from (x ∷ xs) c =
     if nat_le (from + item_cells x) c then 1 + items_before (from + item_cells x) xs c else 0
 
--- the number of the item that covers a column of a line, or of the first behind it
+-- the number of the item that covers a column of a line, or of the first after it
 abbrev pub item_number : Line → ℕ → ℕ
 item_number line c = items_before line.indent line.items c
 

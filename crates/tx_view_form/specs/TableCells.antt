@@ -1,4 +1,4 @@
--- Where the cells of a table stand on a line.
+-- Where the cells of a table are on a line.
 use Rattle.std.specs.Prelude.{◌≡◌, ℕ, ◌+◌, ◌-◌, ◌<◌, ◌≤◌, List, ◌∷◌, ◌++◌, length, get_or, All, Some, slice_get}
 use Rattle.tx_table.specs.declared.settings.Side.{Side}
 use Rattle.tx_table.specs.declared.settings.Side.TheVariants.{Left}
@@ -27,7 +27,7 @@ cell_start p width columns sides j cell =
     (one_line p width).indent
     + (column_start columns j + left_pad (get_or sides j Left) (get_or columns j 0 - cells_across cell))
 
--- in the j-th cell an item stands between others, and covers this column of the page
+-- the item is between others in the j-th cell, and covers this column of the page
 pub record CoversColumn (p : Paragraph) (width : ℕ) (columns : List ℕ) (sides : List Side) (cells : List (List Item))
     (j : ℕ) (item : Item) (c : ℕ) : Type 0 where
   pub cell : List Item

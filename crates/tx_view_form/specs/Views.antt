@@ -17,14 +17,14 @@ use Rattle.tx_layout.specs.Paging.{PagesFrom}
 use Rattle.tx_view_form.specs.Outcomes.{Moment, beginning, outcome, behind, unit_value}
 use Rattle.tx_view_form.specs.Started.{attributes_of}
 
--- what is shown of a unit; one without a path stands on no page
+-- what is shown of a unit; one without a path is on no page
 pub record UnitView : Type 0 where
   pub path : Option (List ℕ)
   pub errors : List ErrorAt
   pub paragraphs : List Paragraph
   pub lines : List Line
 
--- the lines of paragraphs on a page of this width, one paragraph after the other
+-- the lines of paragraphs on a page of this width, in order
 pub data AreLines (width : ℕ) : List Paragraph → List Line → Type 0 where
   no_lines : AreLines width [] []
   lines_then : (p : Paragraph) (ps : List Paragraph) (own others : List Line) → IsShape p width own
@@ -35,14 +35,14 @@ abbrev pub paragraphs_at : Option (List ℕ) → Attrs → WideValue → List Pa
 paragraphs_at None a v = []
 paragraphs_at (Some path) a v = shown_paragraphs a v
 
--- a unit with this path shows so, where these are the attributes before it and this is its value
+-- what is shown of a unit with this path, where these are the attributes before it and this is its value
 pub record IsShown (width : ℕ) (a : Attrs) (v : WideValue) (path : Option (List ℕ)) (x : UnitView) : Type 0 where
   pub path_is : x.path ≡ path
   pub errors : x.errors ≡ (show a v).errors
   pub paragraphs : x.paragraphs ≡ paragraphs_at path a v
   pub lines : AreLines width x.paragraphs x.lines
 
--- units show so from a moment on
+-- what is shown of units, from this moment on
 abbrev pub AreShown : ℕ → Moment → List DocUnit → List UnitView → Type 0
 AreShown width m [] [] = Unit {0}
 AreShown width m [] (x ∷ xs) = ⊥

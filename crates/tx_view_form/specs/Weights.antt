@@ -5,7 +5,7 @@ use Rattle.tx_items.specs.declared.drawing.Item.{Item}
 use Rattle.tx_items.specs.declared.drawing.Item.TheVariants.{Glyph, Space, Chance, Gap, Break, PageEnd, Down}
 use Rattle.tx_items.specs.declared.drawing.Paragraph.{Paragraph}
 
--- each item may stand on a line of its own, or end one, and has its empty lines
+-- each item may be on a line of its own, or end one, and has its empty lines
 abbrev pub item_weight : Item → ℕ
 item_weight (Glyph d) = 1
 item_weight (Space d) = 1

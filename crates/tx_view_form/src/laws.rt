@@ -32,8 +32,8 @@ pub fn one_view()
 }
 
 /// A law: how many items, lines and errors there are at most. A well formed value weighs at most 242 for each unit of
-/// its size, and what a unit that is over comes to at most 49. Paragraphs have at most as many items, and as many
-/// lines, as they weigh.
+/// its size. The value of a unit that runs out of steps weighs at most 49. Paragraphs have at most as many items, and
+/// as many lines, as they weigh.
 pub fn weight_laws()
     ensures value { (a : Attrs) (v : WideValue) → IsWellFormed (plain v) →
         weight_of (shown_paragraphs a v) ≤ 242 * size_of (plain v) }
@@ -52,7 +52,7 @@ pub fn short_law()
         All (λ p. All IsShort p.items) ps → All (λ line. All IsShort line.items) lines }
 {}
 
-/// A law: the position behind a row and a column is a place of the document, and so is each stop.
+/// A law: the position at a row and a column is a place of the document, and so is each stop.
 pub fn place_law(buffers: &[Buffer])
     ensures positions { (width height r c : ℕ) (v : WideView) (p : BasedPlace) → IsView buffers.now width height v →
         position_in v.units width r c ≡ Some p → IsPlace (document_of buffers.now) (whole_path p) p.offset }

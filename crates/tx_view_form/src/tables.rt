@@ -15,17 +15,17 @@ ghost use Rattle.tx_view_form.specs.TableCells.{IsTableRow, CoversColumn};
 use tx_items::row_law;
 use tx_layout::one_line_law;
 
-/// A law: an item of a line covers each of its cells, which stand after the indent and the cells of the items before it.
+/// A law: an item of a line covers each of its cells, which are after the indent and the cells of the items before it.
 pub fn cell_law()
     ensures { (line : Line) (front back : List Item) (item : Item) (c : ℕ) → line.items ≡ front ++ item ∷ back →
         line.indent + cells_across front ≤ c → c < line.indent + cells_across front + item_cells item →
         item_at line c ≡ Some item }
 {}
 
-/// A law: a row of a table whose columns have room side by side is one line, which takes the cells of its columns and of
-/// a gap of 2 between them. What a cell shows stands there in order, from the column that is the indent of the line, the
-/// widths and gaps of the columns before, and the left pad: each cluster is found at each of its columns, and each one
-/// that has a place keeps it.
+/// A law: a row of a table whose columns have room side by side is one line. It takes the cells of its columns and of a
+/// gap of 2 between them. What a cell shows begins after the indent of the line, the widths and gaps of the columns
+/// before, and the left pad. Each cluster is found at each of its columns, in order, and a cluster that has a place has
+/// it there.
 pub fn table_place_law()
     ensures line { (p : Paragraph) (width : ℕ) (columns : List ℕ) (sides : List Side) (cells : List (List Item))
         (lines : List Line) → IsTableRow p width columns sides cells → IsShape p width lines →

@@ -1,4 +1,4 @@
-// Views of buffers: the path from which places in a row are told, and the stops near a place.
+// Views of buffers: the path from which places in a row are given, and the stops near a place.
 use std::alloc::Global;
 use std::marker::Brand;
 use std::sync::ledger::{Blank, Ledger};
@@ -18,11 +18,11 @@ fn view_of<L: Ledger>(alloc: Global, buffers: &[Buffer], steps: &mut Steps<L>) -
 
 // A question about a fresh view.
 trait Question {
-    // Whether the view answers as is wanted.
+    // Whether the view returns what is wanted.
     fn is_answered(&self, alloc: Global, view: &View) -> Option<bool>;
 }
 
-// Whether the view is made fresh, and answers then.
+// Whether the view is made fresh, and returns what is wanted then.
 fn answers<L: Ledger, Q: Question>(
     alloc: Global,
     view: &mut View,
@@ -34,7 +34,7 @@ fn answers<L: Ledger, Q: Question>(
     Some(stale && view.fresh() && question.is_answered(alloc, view)?)
 }
 
-// Whether the view of the buffers that are told answers.
+// Whether the view of the buffers that are given in words returns what is wanted.
 fn view_answers<L: Ledger, Q: Question>(
     alloc: Global,
     told: &str,
@@ -46,7 +46,7 @@ fn view_answers<L: Ledger, Q: Question>(
     answers(alloc, &mut view, question, steps)
 }
 
-// Buffers, a row, and the path from which places in it are told, or a dash past the view.
+// Buffers, a row, and the path from which places in it are given, or a dash past the view.
 struct BasedRow(&'static str, u32, &'static str);
 
 const NESTED: &str =
@@ -70,7 +70,7 @@ const BASED: &[BasedRow] = &[
     BasedRow("d (document \"a\" (document))", 1, "/1"),
 ];
 
-// The path from which places in a row are told, or a dash past the last row.
+// The path from which places in a row are given, or a dash past the last row.
 fn base_told(alloc: Global, view: &View, r: u32) -> Option<String> {
     match view.base(r) {
         None => Some(format!(in alloc; "-").ok()?),
@@ -111,7 +111,7 @@ const NEAR: &[NearRow] = &[
     NearRow(FOUR, "/4", 0, "/0/0 "),
     NearRow(FOUR, "/1/0", 0, "/0/0 "),
     NearRow(FOUR, "/", 0, "/0/0 "),
-    // what stands twice has its stops once, and behind it all stops of the units are listed
+    // what occurs twice has its stops once, and after it all stops of the units are listed
     NearRow(TWICE, "/2", 0, "/1/0/0 /1/0/1 /1/1/0 /1/1/1 /2/0 /2/1 "),
     NearRow(TWICE, "/1/0", 1, "/0/0 /1/0/0 /1/0/1 /1/1/0 /1/1/1 "),
     // a single unit, whose path is that of the root, and none

@@ -35,7 +35,7 @@ module _ {X : Type 0} (test : Name × X → Bool) where
           ∙ (both (test w) (list_all test ws) h).0
       by false t f later = later f
 
-  -- a name that stands once is found behind another
+  -- a name that occurs once is found after another entry
   behind_first : (w : Name × X) (ws : List (Name × X)) → found w.0 ws ≡ None → (q : Name) (x : X) → found q ws ≡ Some x
       → found q (w ∷ ws) ≡ Some x
   behind_first w ws none q x e = by (eq_by_cmp (slice_cmp nat_cmp) q w.0) refl

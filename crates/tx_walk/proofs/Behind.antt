@@ -1,4 +1,4 @@
--- What names have behind a part, and what a tree comes to at an origin of its own.
+-- What names have after a part, and what a tree evaluates to at an origin of its own.
 use Rattle.std.proofs.Common.{◌≡◌, ℕ, ◌+◌, List, ap, sym, ◌∙◌}
 use Rattle.std.specs.Prelude.{Option, Some, None}
 use Rattle.std.specs.List.{IsDistinct}

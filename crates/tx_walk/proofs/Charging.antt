@@ -44,7 +44,7 @@ module _ (guide : Guide) (sound : IsSheller guide.sheller) (k c : ℕ) (path : L
       paid c (evaluates k c t e) = all_cost guide.holder guide.sheller sound k c path t e in
       omega (arith, charges_less guide.stores (parts_by guide.sheller k c path t e), all)
 
-  -- nor more than the steps that it has
+  -- the charge is at most the steps that the tree has
   pub charged_most : charged guide k c path t e ≤ c
   charged_most = omega (arith, charged_within, paid_most k c t e (evaluates k c t e) refl)
 
@@ -65,7 +65,7 @@ module _ (guide : Guide) (sound : IsSheller guide.sheller) (k c : ℕ) (path : L
   none_inside ls i h =
       omega (arith, charged_inside ls i, in_most k ls i c t e (evaluates_in k ls i c t e) refl, h)
 
--- nor without levels
+-- without levels nothing is charged
 pub low_charged : (guide : Guide) (k c : ℕ) (path : List ℕ) (t : WideTree) (e : Before) → k ≡ 0 →
     charged guide k c path t e ≡ 0
 unfolding parts_by layer_costs_by

@@ -1,4 +1,4 @@
--- What stands at other names than those that are set.
+-- Entries at other names than those that are set.
 use Rattle.std.proofs.Common.{◌≡◌, ℕ, ◌+◌, ◌<◌, List, [], ◌∷◌, ◌++◌, length, take, get_or, refl, ap, sym}
 use Rattle.std.proofs.Common.{subst, ◌∙◌}
 use Rattle.std.proofs.lemmas.List.{take_more}
@@ -121,7 +121,7 @@ module _ {X : Type 0} (ps : List (Name × WideTree)) where
       by true r = r
       by false r = (not_among w.0 ws h.0, r)
 
-  -- as a map it is what is past the names that are set
+  -- as a map, these are the entries past the names that are set
   pub outside_is : (ws : List (Name × X)) →
       from_entries {R = slice_cmp nat_cmp} (outside ps ws) ≡ past (overlaid empty ps) (from_entries ws)
   outside_is ws = same (from_entries (outside ps ws)) (past (overlaid empty ps) (from_entries ws)) (λ q.

@@ -1,4 +1,4 @@
--- The trace that is made of what children came to.
+-- The trace that is made of what children evaluated to.
 use Rattle.std.proofs.Common.{◌≡◌, ℕ, ◌+◌, max, List, [], ◌∷◌, ◌++◌, ap, ◌∙◌}
 use Rattle.std.specs.Prelude.{Some, None, codes}
 use Rattle.std.specs.List.{IsDistinct}

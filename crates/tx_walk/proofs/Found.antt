@@ -1,4 +1,4 @@
--- What is kept at a path, by the number of the part.
+-- What is cached at a path, by the number of the part.
 use Rattle.std.proofs.Common.{◌≡◌, ℕ, zero, suc, ◌+◌, ◌-◌, ◌<◌, ◌≤◌, ◌⊎◌, inl, inr, List, [], ◌∷◌, length, drop, refl}
 use Rattle.std.proofs.Common.{ap, sym, subst, ◌∙◌, get_or, arith}
 use Rattle.std.proofs.lemmas.Bool.{cases_lt}
@@ -34,7 +34,7 @@ pub if_false : (b : Bool) (o r : Option WideTrace) → b ≡ false → (if b the
 if_false false o r h = refl
 if_false true o r h = cc
 
--- of parts with different paths the one at the path tells what is kept there
+-- of parts with different paths, the one at the path has the cached trace there
 pub at_path : (ps : List DonePart) (path : List ℕ) (i : ℕ) (p : DonePart) → IsDistinct bytes_eq (paths_of ps) →
     slice_get ps i ≡ Some p → bytes_eq p.path path ≡ true → kept_in ps path ≡ Some (wide_trace p.trace)
 unfolding IsDistinct
@@ -51,7 +51,7 @@ at_path (q ∷ ps) path (suc i) p d h e =
     (ap (bytes_eq q.path) (sym there) ∙ other)
     ∙ at_path ps path i p d.1 h e
 
--- past one that stands elsewhere
+-- past one at another path
 pub past_other : (ps : List DonePart) (path : List ℕ) (i : ℕ) (p : DonePart) (o : Option WideTrace) →
     slice_get ps i ≡ Some p → bytes_eq p.path path ≡ false → o ≡ kept_in (drop i ps) path →
     o ≡ kept_in (drop (i + 1) ps) path
@@ -76,7 +76,7 @@ pub found_near : (ps : List DonePart) (path : List ℕ) (i : ℕ) (p : DonePart)
 found_near ps path i p d h e =
     record { part = p; there = h; stands = (bytes_eq-Decides p.path path).0 e; is = at_path ps path i p d h e }
 
--- so where another list is the same
+-- by an equal list
 pub found_in : (ps qs : List DonePart) (path : List ℕ) (i : ℕ) (p : DonePart) → qs ≡ ps →
     IsDistinct bytes_eq (paths_of ps) → slice_get qs i ≡ Some p → bytes_eq p.path path ≡ true → IsKeptAt ps path i
 found_in ps qs path i p same d h e = found_near ps path i p d (ap (λ rs. slice_get rs i) (sym same) ∙ h) e
@@ -98,7 +98,7 @@ equal_if Less h = cc
 equal_if Equal h = refl
 equal_if Greater h = cc
 
--- paths that are level are the same
+-- equal paths compare as equal
 level_if : (path : List ℕ) (p : DonePart) → bytes_eq p.path path ≡ true → side path p ≡ Equal
 level_if path p e = equal_if (side path p) (sym (texts_ties p.path path) ∙ e)
 
@@ -118,7 +118,7 @@ there_at (q ∷ qs) (suc i) h =
     let r : There qs i = there_at qs i (omega (arith, h)) in
     record { part = r.part; there = r.there; read = r.read }
 
--- where no part is level with the path, nothing is kept there
+-- where no part's path compares as equal with the path, nothing is cached there
 none_level : (path : List ℕ) (ps : List DonePart) →
     ((i : ℕ) (d : DonePart) → i < length ps → side path (get_or ps i d) ≡ Equal → ⊥) → kept_in ps path ≡ None
 none_level path [] h = refl

@@ -1,4 +1,4 @@
--- The children of a `document`, one behind the other.
+-- The children of a `document`, in order.
 use Rattle.std.proofs.Common.{◌≡◌, ℕ, zero, suc, ◌+◌, ◌-◌, ◌≤◌, max, List, [], ◌∷◌, ◌++◌, map, length, drop, refl}
 use Rattle.std.proofs.Common.{ap, sym, subst, ◌∙◌, append_assoc, length-append, arith}
 use mathlib.Core.Path.{fun_ext}
@@ -85,7 +85,7 @@ module _ (guide : Guide) (k c : ℕ) (path : List ℕ) (i : ℕ) (t : WideTree) 
 
 -- ---- the loop
 
--- Behind i children.
+-- After i children.
 pub record Going (guide : Guide) (k c : ℕ) (path : List ℕ) (kids : List WideTree) (s : Stage) (i : ℕ) (s1 : Stage) :
     Type 0 where
   pub so_far : SoFar
@@ -135,7 +135,7 @@ begins guide k c path kids s h =
       many = refl;
     }
 
--- what a child is charged, and those behind it
+-- what a child is charged, and those after it
 module _ (guide : Guide) (k c : ℕ) (path : List ℕ) (i : ℕ) (a : SoFar) (t : WideTree) (ts : List WideTree)
     (e : Before) where
   abbrev parts_here : List Part
@@ -206,7 +206,7 @@ module _ (guide : Guide) (k c : ℕ) (path : List ℕ) (kids : List WideTree) (s
   pub cost_is : s1.joined.cost ≡ g.so_far.cost
   cost_is = ap (λ (a : SoFar). a.cost) g.joined
 
-  -- what the child comes to
+  -- what the child evaluates to
   at_child : evaluates k (c - s1.joined.cost) t s1.names ≡
       evaluates k (c - g.so_far.cost) t (env_atop g.so_far.writes s.names)
   at_child =

@@ -1,4 +1,4 @@
--- What a walk answered can be kept for the next one, whatever shells trees have.
+-- What a walk returned can be cached for the next one, whatever shells trees have.
 use Rattle.std.proofs.Common.{◌≡◌, ℕ, List, [], ◌∷◌, ◌++◌, map, refl, ap, sym, subst, ◌∙◌}
 use Rattle.std.proofs.lemmas.List.{append_cancel_left}
 use Rattle.std.proofs.lemmas.Slice.Eq.{bytes_eq-Decides}
@@ -38,7 +38,7 @@ alike kept d ds p ps h = record { first = ap (head (seen d)) h; others = ap tail
     tail [] = []
     tail (x ∷ xs) = xs
 
--- the part that is kept at a path
+-- the cached part at a path
 pub record Found (path : List ℕ) (t : WideTree) (at : List ℕ) (trace : WideTrace) : Type 0 where
   pub part : Part
   pub stands : StandsIn path t part

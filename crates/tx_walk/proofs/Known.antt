@@ -1,4 +1,4 @@
--- What is known of layers' trees behind a walk.
+-- What is known of layers' trees after a walk.
 use Rattle.std.proofs.Common.{◌≡◌, ℕ, ◌+◌, List, [], ◌∷◌, ◌++◌, ap, ◌∙◌, arith}
 use Rattle.std.specs.Prelude.{Option, Some, None, IfSome}
 use Rattle.std.specs.Option.{option_map}
@@ -35,7 +35,7 @@ known_nothing cost old new (Some u) same none =
     more : HoldsMore (holds_in old) (holds_in new)
     more t e h = ap (λ ms. holds_in ms t e) same ∙ h
 
--- what is left to evaluate where as much is kept
+-- nothing of layers is left to evaluate where all of these are cached
 pub nothing_left : (sheller : Sheller) (k c : ℕ) (t : WideTree) (e : Before) (old new kept : List TreeTrace)
     (o : Option WideTrace) → AreKnownBy sheller k c t e old new o →
     IfSome o (λ (trace : WideTrace). kept ≡ new) →

@@ -1,4 +1,4 @@
--- The names and trees of a layer, one behind the other.
+-- The names and trees of a layer, in order.
 use Rattle.std.proofs.Common.{◌≡◌, ℕ, zero, suc, ◌+◌, ◌*◌, ◌-◌, ◌<◌, ◌≤◌, ◌⊎◌, max, List, [], ◌∷◌, ◌++◌, length, take}
 use Rattle.std.proofs.Common.{drop, refl, ap, sym, subst, ◌∙◌, append_assoc, length-append, arith}
 use Rattle.std.proofs.lemmas.List.{drop_all, take_all, map-append}
@@ -65,7 +65,7 @@ pub traced_bare : (path : List ℕ) (k c : ℕ) (t : WideTree) (e : Before) (tra
     evaluates_bare k c t e ≡ Some trace → value_under path trace.value ≡ trace.value
 traced_bare path k c t e trace h = bare_under path t trace.value (comes k c (bare t) e trace h)
 
--- so it stands among the others as it is
+-- as a child of any number, it is joined to the others unchanged
 pub child_bare : (i k c : ℕ) (a : SoFar) (t : WideTree) (e : Before) (trace : WideTrace) →
     evaluates_bare k c t e ≡ Some trace → with_child i a trace ≡ joined_with a trace
 child_bare i k c a t e trace h =
@@ -138,7 +138,7 @@ module _ (held : Holder) (k c : ℕ) (x : Name) (t : WideTree) (s s1 : LayerStag
 true_same : (a b : WideTree) (d : Bool) → is_same a b && d ≡ true → (a ≡ b) × (d ≡ true)
 true_same a b d h = (same_is a b (both (is_same a b) d h).0, (both (is_same a b) d h).1)
 
--- what serves for the tree is its trace where it looks up the same
+-- what serves for the tree is of this tree, and its looks agree
 pub serves_is : (t : WideTree) (e : Before) (m : TreeTrace) → serves_for t e m ≡ true →
     (m.tree ≡ t) × (agrees e m.trace.looks ≡ true)
 serves_is t e m h = true_same m.tree t (agrees e m.trace.looks) h
@@ -149,14 +149,14 @@ pub held_comes : (m : TreeTrace) (k c : ℕ) (e : Before) → Supports m.trace (
     evaluates_bare k c m.tree e ≡ Some m.trace
 held_comes m k c e supports fits cheap low = supports k c e (agrees_is e m.trace.looks fits) cheap low
 
--- and one that isn't allowed
+-- a trace that is held and isn't allowed
 pub held_over : (m : TreeTrace) (k c : ℕ) (e : Before) → Supports m.trace (bare m.tree) →
     agrees e m.trace.looks ≡ true → (c < m.trace.cost) ⊎ (k < m.trace.height) →
     evaluates_bare k c m.tree e ≡ None
 held_over m k c e supports fits dear =
     none_allowed m.trace k c (bare m.tree) e supports (agrees_is e m.trace.looks fits) dear
 
--- a tree that is done, by what it is told as
+-- a tree that is done, by the setting that is added for it
 pub tree_done : (held : Holder) (k c : ℕ) (x : Name) (t : WideTree) (s s1 : LayerStage) (z : DoneSetting)
     (trace : WideTrace) → evaluates_bare k (c - s.joined.cost) t s.names ≡ Some trace →
     z ≡ setting_of held x t s.names trace → s1.joined ≡ joined_with s.joined z.done.trace →
@@ -172,7 +172,7 @@ tree_done held k c x t s s1 z trace comes is joined settings names count =
       count = count;
     }
 
--- a tree that is held, or one that isn't, whatever else is
+-- a tree is done or runs out by whether it is held, whatever holds others
 pub tree_by : (one held : Holder) (k c : ℕ) (x : Name) (u t : WideTree) (s s1 : LayerStage) (went : Bool) →
     u ≡ t → one u s.names ≡ held t s.names → TreeComes one k c x u s s1 went → TreeComes held k c x t s s1 went
 tree_by one held k c x u t s s1 true same alike d =
@@ -204,7 +204,7 @@ tree_by one held k c x u t s s1 false same alike d =
 
 -- ---- the loop
 
--- behind i names with their trees
+-- after i names with their trees
 pub record LayerGoing (held : Holder) (k c : ℕ) (l : Layer) (s : LayerStage) (i : ℕ) (s1 : LayerStage) : Type 0 where
   pub number : ℕ
   pub run : children_from (evaluates_bare k) c 0 nothing_yet (in_turn l.names l.trees) s.names ≡
@@ -282,7 +282,7 @@ module _ (held : Holder) (k c : ℕ) (l : Layer) (s : LayerStage) (i : ℕ) (s1 
   abbrev counts_then : Holder → TreeMeasure → ℕ → SoFar → ℕ
   counts_then more measure n a = tree_counts_from more measure k c n a xs ts s.names
 
-  -- behind the name
+  -- after the name
   abbrev named : SoFar
   named = joined_with s1.joined (name_trace x)
 
@@ -344,7 +344,7 @@ module _ (held : Holder) (k c : ℕ) (l : Layer) (s : LayerStage) (i : ℕ) (s1 
         let most = allowed k (c - s1.joined.cost) (bare (leaf x)) s1.names (name_trace x) done in
         omega (arith, cost, most.0)
 
-    -- what is counted of the tree, by what it comes to
+    -- what is counted of the tree, by its trace
     abbrev mine : Holder → TreeMeasure → Option WideTrace → ℕ
     mine more measure o = if more t (env_atop named.writes s.names) then 0 else measure (c - named.cost) o
 
@@ -375,7 +375,7 @@ module _ (held : Holder) (k c : ℕ) (l : Layer) (s : LayerStage) (i : ℕ) (s1 
           count = omega (arith, count, before, counts);
         }
 
-    -- the tree is held by what holds what was set
+    -- a holder that holds all settings holds the tree
     tree_known : (s2 : LayerStage) (d : TreeDone held k c x t (behind_name x s1) s2) (more : Holder)
         (measure : TreeMeasure) → AllHeldBy more s2.settings →
         g.so_far more measure + mine more measure (Some d.trace) ≡ 0

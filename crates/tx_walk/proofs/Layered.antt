@@ -1,4 +1,4 @@
--- What stands in layers, and tags with shells.
+-- Trees in layers, and tags with shells.
 use Rattle.std.proofs.Common.{◌≡◌, ℕ, zero, suc, ◌+◌, ◌*◌, ◌-◌, ◌<◌, ◌≤◌, max, List, [], ◌∷◌, ◌++◌, map, length, refl}
 use Rattle.std.proofs.Common.{ap, sym, subst, ◌∙◌, arith}
 use mathlib.Core.Path.{fun_ext}
@@ -53,7 +53,7 @@ use Rattle.tx_parts.proofs.Maps.{get_atop, atop_nothing}
 up : (k : ℕ) → 0 < k → suc (k - 1) ≡ k
 up k some = omega (arith, some)
 
--- ---- what comes behind, where the result is made of what was inside
+-- ---- what comes after, where the result is made of what was inside
 
 pub added_as : (guide : Guide) (f : WideTrace → WideTrace) (ps qs : List Part) (old new : List DonePart)
     (o r : Option WideTrace) → ps ≡ qs → r ≡ option_map f o → IsAdded guide.stores ps old new o →
@@ -92,7 +92,7 @@ added_same guide ps qs old new o same h = subst (λ rs. IsAdded guide.stores rs 
 
 -- ---- what the code asks
 
--- what stands below the count is there
+-- an element of a number below the length is there
 pub missing : {X : Type 0} (xs : List X) (i : ℕ) → i < length xs → slice_get xs i ≡ None → ⊥
 missing [] i low h = absurd (omega (arith, low))
 missing (x ∷ xs) zero low h = cc
@@ -330,7 +330,7 @@ values_bare path k c i a (t ∷ ts) e b h g =
         ∙ ap (λ v. a.values ++ v ∷ []) (ap (value_under path) one ∙ two ∙ sym one))
         f.others
 
--- what stands in layers comes to a value that is no larger than its cost, and no deeper than its height
+-- a tree in layers evaluates to a value that is no larger than its cost, and no deeper than its height
 in_small : (k : ℕ) (ls : List Layer) (i c : ℕ) (t : WideTree) (e : Before) (trace : WideTrace) →
     evaluates_in k ls i c t e ≡ Some trace →
     (size_of (plain trace.value) ≤ trace.cost) × (depth_of (plain trace.value) ≤ trace.height)
@@ -406,7 +406,7 @@ sizes_are (p ∷ ps) =
     let rest : sizes (as_sets ps) ≡ set_sizes ps = sizes_are ps in
     omega (arith, rest)
 
--- pairs that are set in an environment stand atop it
+-- pairs that are set in an environment override it
 overlaid_atop : (m : NameMap) (ps : List (Name × WideTree)) →
     get (overlaid m ps) ≡ env_atop (overlaid empty ps) (get m)
 overlaid_atop m ps =
@@ -415,7 +415,7 @@ overlaid_atop m ps =
 
 module _ (guide : Guide) (sound : IsSheller guide.sheller) (k c i : ℕ) (path : List ℕ) (l : Layer) (ls : List Layer)
     (t : WideTree) (s : LayerStage) (some : 0 < k) where
-  -- where the names and trees are over
+  -- where one of the names and trees runs out
   module _ (s1 : LayerStage) (d : LayerOver guide.holder (k - 1) (c - 1) l s s1) where
     pub values_over : evaluates_in k (l ∷ ls) i c t s.names ≡ None
     values_over =
@@ -677,7 +677,7 @@ module _ (guide : Guide) (sound : IsSheller guide.sheller) (k c i : ℕ) (path :
           ap (charges guide.stores) inside_parts in
           omega (arith, count, nodes, parts, inner_costs guide.holder, costs_allowed guide.holder, h, g)
 
-      -- where what holds the layer's trees was kept
+      -- where what holds the layer's trees was cached
       pub inside_known : (old mid new : List TreeTrace) (o r : Option WideTrace) →
           HoldsMore (holds_in old) (holds_in mid) → AllHeldBy (holds_in mid) s1.settings →
           r ≡ option_map (layer_by (overlaid empty pairs) a n) o →

@@ -1,4 +1,4 @@
--- What is kept of layers' trees, found by trees and looks.
+-- The cached traces of layers' trees, found by trees and looks.
 use Rattle.std.proofs.Common.{◌≡◌, ℕ, zero, suc, ◌+◌, ◌<◌, ◌≤◌, List, [], ◌∷◌, ◌++◌, length, take, drop, get_or, refl}
 use Rattle.std.proofs.Common.{ap, sym, subst, ◌∙◌, arith}
 use Rattle.std.proofs.lemmas.List.{drop_all, take_all, take_more}
@@ -127,7 +127,7 @@ pub same_all : {X : Type 0} (xs ys : List X) (i : ℕ) → length xs ≤ i → l
 same_all xs ys i past long h =
     sym (take_all i xs past) ∙ h ∙ take_all i ys (omega (arith, past, long))
 
--- a result that tells nothing more
+-- what holds of each value holds whenever a result is Ok
 pub always_ok : {X Y : Type 0} (r : Result X Y) (P : X → Type 0) → ((x : X) → P x) → IfOk r P
 always_ok (Ok x) P f = f x
 always_ok (Err y) P f = tt

@@ -1,4 +1,4 @@
--- Pairs in which no name stands twice, and their map.
+-- Pairs in which no name occurs twice, and their map.
 use Rattle.std.proofs.Common.{◌≡◌, Bool, true, false, cond, List, [], ◌∷◌, refl, sym, ap, ◌∙◌}
 use Rattle.std.specs.Prelude.{Option, Some, None, T, ◌&&◌}
 use Rattle.std.specs.List.{IsDistinct, AllByRecursion}
@@ -29,7 +29,7 @@ module _ {X : Type 0} where
   abbrev pub found : Name → List (Name × X) → Option X
   found q ws = find (slice_cmp nat_cmp) q ws
 
-  -- no name stands twice
+  -- no name occurs twice
   abbrev pub AreOnce : List (Name × X) → Type 0
   AreOnce [] = Unit {0}
   AreOnce (w ∷ ws) = (found w.0 ws ≡ None) × AreOnce ws

@@ -10,7 +10,7 @@ take_next before after ws i w x y lt is so_far pushed first second =
     ∙ ap (λ a. take i ws ++ (a, y) ∷ []) first ∙ ap (λ b. take i ws ++ (w.0, b) ∷ []) second
     ∙ ap (λ v. take i ws ++ v ∷ []) is ∙ sym (take_more ws i w lt)
 
--- the same for numbers of a path
+-- one number more of a path
 pub number_next : (before after ns : List ℕ) (i n : ℕ) → i < length ns → n ≡ get_or ns i n → before ≡ take i ns →
     after ≡ before ++ n ∷ [] → after ≡ take (i + 1) ns
 number_next before after ns i n lt is so_far step =

@@ -1,4 +1,4 @@
--- The tree of a unit, which stands at the root's origin.
+-- The tree of a unit, which is at the root's origin.
 use Rattle.std.proofs.Common.{◌≡◌, ℕ, List, [], ◌∷◌, ◌++◌, map, length, refl, ap, sym, ◌∙◌, arith}
 use Rattle.std.specs.Prelude.{Option, Some, None}
 use Rattle.std.specs.Option.{option_map}
@@ -31,7 +31,7 @@ pub all_seen : (kept : Stores) (ps : List Part) (old new : List DonePart) (o : O
 all_seen kept ps old new None e h = refl
 all_seen kept ps old new (Some trace) e h = h ∙ ap (λ us. map seen us ++ map (seen_in kept) ps) e
 
--- under the path of the root a value is the same
+-- under the path of the root a value is unchanged
 pub same_at_root : (path ns : List ℕ) (v : WideValue) → ns ≡ path → length ns ≡ 0 → v ≡ value_under path v
 same_at_root [] ns v e h = sym (under_none v)
 same_at_root (i ∷ path) ns v e h =

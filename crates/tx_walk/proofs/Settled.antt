@@ -1,4 +1,4 @@
--- What a part comes to.
+-- What a part evaluates to.
 use Rattle.std.proofs.Common.{◌≡◌, ℕ, zero, suc, ◌+◌, ◌-◌, ◌<◌, ◌≤◌, inl, inr, List, [], ◌∷◌, ◌++◌, map, refl, ap, sym}
 use Rattle.std.proofs.Common.{subst, ◌∙◌, leb-true, leb-false, arith}
 use Rattle.std.proofs.lemmas.List.{map-append}
@@ -38,7 +38,7 @@ append_none : {X : Type 0} (xs : List X) → xs ++ [] ≡ xs
 append_none [] = refl
 append_none (x ∷ xs) = ap (λ ys. x ∷ ys) (append_none xs)
 
--- It is done with this trace, or it is over.
+-- It is done with this trace, or it runs out.
 pub data Settles (k c : ℕ) (base : List ℕ) (t : WideTree) (e : Before) (w : WideTrace) (o : Option WideTrace) :
     Type 0 where
   is_done : o ≡ Some (trace_under base w) → evaluates k c t e ≡ Some w → Settles k c base t e w o
@@ -63,7 +63,7 @@ done_lower m k c t e w h low =
     let bounds : (w.cost ≤ c) × (w.height ≤ m) = allowed m c t e w h in
     supports m c t e w h k c e (agrees m c t e w h) bounds.0 low
 
--- and over with fewer
+-- with fewer levels it runs out
 pub over_below : (m k c : ℕ) (t : TaggedTree) (e : Before) (w : WideTrace) → evaluated_in m c t e ≡ Some w →
     k < w.height → evaluated_in k c t e ≡ None
 over_below m k c t e w h high =
@@ -77,7 +77,7 @@ pub rest_counted : (before between after c cost : ℕ) → between ≡ before + 
     after ≡ between + (c - cost) → after ≡ before + c
 rest_counted before between after c cost h few g = omega (arith, h, few, g)
 
--- what is over with all levels is over with fewer
+-- what runs out with all levels runs out with fewer
 pub over_lower : (m k c : ℕ) (t : TaggedTree) (e : Before) → k ≤ m → evaluated_in m c t e ≡ None →
     evaluated_in k c t e ≡ None
 over_lower m k c t e low none = by (evaluated_in k c t e) refl
@@ -250,7 +250,7 @@ module _ (guide : Guide) (k c : ℕ) (path : List ℕ) (t : WideTree) (e : Befor
 
 -- ---- results
 
--- a result that tells nothing more
+-- what holds anyway holds whenever a result is Ok
 pub any_ok : {X Y : Type 0} (r : Result X Y) (P : Type 0) → P → OnOk r P
 any_ok (Ok x) P p = p
 any_ok (Err y) P p = tt

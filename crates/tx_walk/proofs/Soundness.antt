@@ -1,4 +1,4 @@
--- What is kept of a child supports what stands there.
+-- A cached trace at the path of a child supports the tree there.
 use Rattle.std.proofs.Common.{◌≡◌, ℕ, List, [], ◌∷◌, ◌++◌, ap, sym, subst, ◌∙◌, append_assoc}
 use Rattle.std.specs.Prelude.{Some, slice_get, option_and_then}
 use Rattle.tx_tree.specs.WideTree.{WideTree, children_of}

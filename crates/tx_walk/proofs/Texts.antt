@@ -111,7 +111,7 @@ values_push n m (q ∷ ps) p h =
 pairs_push : (ps : TextSettings) (p : List ℕ × List ℕ) → pairs_of (ps ++ p ∷ []) ≡ pairs_of ps ++ (p.0, leaf p.1) ∷ []
 pairs_push ps p = map-append (λ q. (q.0, leaf q.1)) ps (p ∷ [])
 
--- so many settings were gone through
+-- after i settings
 pub record SoFar (base : List ℕ) (ps : TextSettings) (i : ℕ) (s : Settings) : Type 0 where
   pub pairs : s.pairs.items ≡ pairs_of (take i ps)
   pub values : s.values.items ≡ map (value_under base) (setting_values 0 (take i ps))
@@ -121,7 +121,7 @@ pub record SoFar (base : List ℕ) (ps : TextSettings) (i : ℕ) (s : Settings) 
 pub below : (i n m k : ℕ) → i < n / 2 → n ≡ m → m ≡ suc (2 * k) → i < k
 below i n m k h e f = omega (arith, h, e, f)
 
--- a text that stands in one place is one text
+-- two texts at one place are the same text
 pub text_same : (x y : List ℕ) (o : Option WideTree) → o ≡ Some (leaf x) → o ≡ Some (leaf y) → x ≡ y
 text_same x y o h g = let same : leaf x ≡ leaf y = cc in cc
 

@@ -238,7 +238,7 @@ module _ (guide : Guide) (k c : ℕ) (path : List ℕ) (t : WideTree) (ps : Text
       ap (λ n. below n i e1) is_rest ∙ ap (λ j. below (c - (1 + settings_cost ps)) j e1) is_i
       ∙ ap (below (c - (1 + settings_cost ps)) (2 * length ps)) is_e
 
-  -- the settings as they are
+  -- the trace, by the names and texts of the tree
   with_at_is : (w : WideTrace) → with_at path (overlaid empty s.pairs.items) s.values.items s.cost w ≡
       with_at path (set_by ps) (map (value_under path) (setting_values 0 ps)) (settings_cost ps) w
   with_at_is w =

@@ -1,4 +1,4 @@
--- What is found of what is kept.
+-- What is found in the cache.
 use Rattle.std.specs.Prelude.{◌≡◌, ℕ, Bool, true, false, List, Option, Some, slice_get}
 use Rattle.std.specs.List.{All, IsDistinct}
 use Rattle.std.specs.List.Sorted.{IsSortedBy}
@@ -21,12 +21,12 @@ side path p = slice_cmp nat_cmp p.path path
 abbrev pub AreSortedByPath : List DonePart → Type 0
 AreSortedByPath ps = IsSortedBy (λ p q. is_lt (side q.path p)) ps
 
--- parts that are looked up: they stand at different paths, and each is tidy
+-- parts that are looked up: they have different paths, and each is tidy
 pub record AreFindable (ps : List DonePart) : Type 0 where
   pub distinct : IsDistinct bytes_eq (paths_of ps)
   pub tidy : All IsTidy ps
 
--- the part of this number is what is kept at the path
+-- the part of this number is the cached one at the path
 pub record IsKeptAt (kept : List DonePart) (path : List ℕ) (i : ℕ) : Type 0 where
   pub part : DonePart
   pub there : slice_get kept i ≡ Some part
@@ -40,7 +40,7 @@ pub record IsHeldBy (e : Before) (path : List ℕ) (found : Option WideTrace) (p
   pub held : fits e found ≡ true
   pub tidy : IsTidy p
 
--- the part holds the one at the path: it is what is kept there, or, where that doesn't fit, what the spare has there
+-- the part holds the one at the path: it is the cached one there, or, where that doesn't fit, the spare's
 abbrev pub IsHeldIn : Before → List ℕ → Stores → DonePart → Bool → Type 0
 IsHeldIn e path kept p false = IsHeldBy e path (kept.own path) p
 IsHeldIn e path kept p true = (fits e (kept.own path) ≡ false) × IsHeldBy e path (kept.spare path) p

@@ -11,7 +11,7 @@ use Rattle.tx_walk.specs.declared.prior.PriorStores.{PriorStores}
 use Rattle.tx_walk.specs.Held.{Stores, charges}
 use Rattle.tx_walk.specs.Prior.{stores_of, holder_of}
 
--- what is kept of parts and what is spare, which trees have shells, and what holds trees of layers
+-- the cached traces of parts and the spare ones, which trees have shells, and what holds trees of layers
 pub record Guide : Type 0 where
   pub stores : Stores
   pub sheller : Sheller
@@ -21,19 +21,19 @@ abbrev pub guide_of : Opener → PriorStores → Guide
 guide_of opener prior =
     record { stores = stores_of prior; sheller = shells_by opener; holder = holder_of prior }
 
--- what a tree is charged, with k levels and c steps: its parts that aren't held, and what layers cost of which
--- trees aren't
+-- what a tree is charged, with k levels and c steps: its parts that aren't held, and what layers cost without their
+-- held trees
 abbrev pub charged : Guide → ℕ → ℕ → List ℕ → WideTree → Before → ℕ
 charged g k c path t e =
     charges g.stores (parts_by g.sheller k c path t e) + layer_costs_by g.holder g.sheller k c t e
 
--- so the children from number i on, behind what the earlier ones came to
+-- what the children from number i on are charged, after the traces of the earlier ones
 abbrev pub charged_from : Guide → ℕ → ℕ → List ℕ → ℕ → SoFar → List WideTree → Before → ℕ
 charged_from g k c path i a ts e =
     charges g.stores (parts_from k (parts_by g.sheller k) c path i a ts e)
     + counts_from k (layer_costs_by g.holder g.sheller k) c i a ts e
 
--- so a tree in layers, which is the child of number i
+-- what a tree in layers is charged, which is the child of number i
 abbrev pub charged_in : Guide → ℕ → List Layer → ℕ → ℕ → List ℕ → WideTree → Before → ℕ
 charged_in g k ls i c path t e =
     charges g.stores (parts_in g.sheller k ls i c path t e) + layer_costs_in g.holder g.sheller k ls c t e

@@ -1,4 +1,4 @@
--- What is kept of parts, which parts it holds, and what the others are charged.
+-- The cached traces of parts, which parts they hold, and what the others are charged.
 use Rattle.std.specs.Prelude.{ℕ, Bool, false, ◌||◌, ◌≡◌, ◌++◌, if◌then◌else◌, List, Option, Some, None}
 use Rattle.std.specs.List.{list_all, sum_by}
 use Rattle.std.specs.FinMap.{entries}
@@ -12,7 +12,7 @@ use Rattle.tx_parts.specs.Composed.{alone}
 use Rattle.tx_parts.specs.Parts.{Part, part_cost}
 use Rattle.tx_walk.specs.SameTrees.{same}
 
--- what is kept at a path: a trace, or nothing
+-- what is cached at a path: a trace, or nothing
 abbrev pub Store : Type 0
 Store = List ℕ → Option WideTrace
 
@@ -20,25 +20,25 @@ Store = List ℕ → Option WideTrace
 abbrev pub agrees : Before → LookMap → Bool
 agrees e looks = list_all (λ look. same (e look.0) look.1) (entries looks)
 
--- what is kept fits where names have this
+-- the cached trace fits where names have this
 abbrev pub fits : Before → Option WideTrace → Bool
 fits e None = false
 fits e (Some trace) = agrees e trace.looks
 
--- what is kept at the part's path fits what names have before it
+-- the cached trace at the part's path fits what names have before it
 abbrev pub serves : Store → Part → Bool
 serves kept p = fits p.before (kept p.path)
 
--- what is kept, and a spare, which is looked up where that doesn't fit
+-- the cache, and a spare, which is looked up where the cached trace doesn't fit
 pub record Stores : Type 0 where
   pub own : Store
   pub spare : Store
 
--- this alone, with nothing spare
+-- this cache alone, with an empty spare
 abbrev pub only : Store → Stores
 only kept = record { own = kept; spare = λ path. None }
 
--- a part is held where what is kept at its path fits, or what the spare has there
+-- a part is held where the cached trace at its path fits, or the spare's
 abbrev pub is_part_held : Stores → Part → Bool
 is_part_held kept p = serves kept.own p || serves kept.spare p
 
@@ -50,12 +50,12 @@ charge_of kept p = if is_part_held kept p then 0 else part_cost p
 abbrev pub charges : Stores → List Part → ℕ
 charges kept ps = sum_by (charge_of kept) ps
 
--- What is kept at a path in the tree, which stands at this path, supports what stands there.
+-- Each cached trace at a path in the tree supports the tree there. The path of the whole tree is this.
 pub record IsSound (kept : Store) (path : List ℕ) (t : WideTree) : Type 0 where
   pub holds : (below : List ℕ) (u : WideTree) (trace : WideTrace) → subtree t below ≡ Some u →
       kept (path ++ below) ≡ Some trace → Supports trace (alone u)
 
--- so does what the spare has there
+-- the cache is sound, and the spare is
 pub record AreSound (kept : Stores) (path : List ℕ) (t : WideTree) : Type 0 where
   pub own : IsSound kept.own path t
   pub spare : IsSound kept.spare path t

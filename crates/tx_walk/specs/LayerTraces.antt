@@ -1,4 +1,4 @@
--- What is kept of the trees of layers, and which of them it holds.
+-- The cached traces of layers' trees, and which trees they hold.
 use Rattle.std.specs.Prelude.{◌≡◌, ℕ, Bool, true, false, ◌&&◌, ◌||◌, List, [], ◌∷◌, Option, Some, None, IfSome, refl}
 use Rattle.std.specs.Coded.{Coded, code_by, coded×, coded_list, coded_option, coded_bool, coded_ℕ}
 use Rattle.std.specs.FinMap.{code}
@@ -19,9 +19,9 @@ use Rattle.tx_walk.specs.SameTrees.{is_same}
 use Rattle.tx_walk.specs.Held.{agrees}
 use Rattle.tx_walk.specs.Walked.{AreOnce}
 
--- ---- what is kept of a tree
+-- ---- what is cached of a tree
 
--- a tree, and what it comes to without an origin and without a frame
+-- a tree, and its trace without an origin and without a frame
 pub record TreeTrace : Type 0 where
   pub tree : WideTree
   pub trace : WideTrace
@@ -32,13 +32,13 @@ pub record DoneSetting : Type 0 where
   pub done : TreeTrace
   pub held : Bool
 
--- The trace is the tree's wherever its looks have the same, and names are set to the third.
+-- The trace is the tree's in each environment that agrees with its looks, and names are set to the third.
 pub record IsLayerTrace (tree : WideTree) (trace : Trace) (set : WideTree) : Type 0 where
   pub supports : Supports (wide_trace trace) (bare tree)
   pub once : AreOnce trace
   pub is_set : set ≡ plain trace.value
 
--- so where what names are set to may not be at hand
+-- as `IsLayerTrace`, where the tree to which names are set may be missing
 pub record IsTreeSetting (tree : WideTree) (trace : Trace) (set : Option WideTree) : Type 0 where
   pub supports : Supports (wide_trace trace) (bare tree)
   pub once : AreOnce trace
@@ -50,16 +50,16 @@ pub record IsTreeSetting (tree : WideTree) (trace : Trace) (set : Option WideTre
 abbrev pub serves_for : WideTree → Before → TreeTrace → Bool
 serves_for t e m = is_same m.tree t && agrees e m.trace.looks
 
--- one of these is
+-- one of these serves
 abbrev pub holds_in : List TreeTrace → Holder
 holds_in [] t e = false
 holds_in (m ∷ ms) t e = serves_for t e m || holds_in ms t e
 
--- what is kept holds it, or the spare does
+-- a cached trace holds it, or one of the spare does
 abbrev pub holds_either : List TreeTrace → List TreeTrace → Holder
 holds_either kept spare t e = holds_in kept t e || holds_in spare t e
 
--- the tree is held wherever its looks have the same
+-- the tree is held in each environment that agrees with its looks
 abbrev pub IsHeldWith : Holder → TreeTrace → Type 0
 IsHeldWith held m = (e : Before) → agrees e m.trace.looks ≡ true → held m.tree e ≡ true
 
@@ -69,12 +69,13 @@ AllHeldBy held (s ∷ ss) = IsHeldWith held s.done × AllHeldBy held ss
 
 -- ---- what a walk leaves
 
--- What was held is held still, and what a tree costs of layers is nothing where so much is held.
+-- What was held before is still held. What a tree costs of layers is nothing for each holder that holds at least the
+-- new ones.
 pub record LayersKnown (cost : Holder → ℕ) (old new : List TreeTrace) : Type 0 where
   pub more : HoldsMore (holds_in old) (holds_in new)
   pub nothing : (held : Holder) → HoldsMore (holds_in new) held → cost held ≡ 0
 
--- so where it isn't over
+-- `LayersKnown`, where the tree doesn't run out
 abbrev pub AreKnown : (Holder → ℕ) → List TreeTrace → List TreeTrace → Option WideTrace → Type 0
 AreKnown cost old new None = Unit {0}
 AreKnown cost old new (Some trace) = LayersKnown cost old new
@@ -84,7 +85,7 @@ abbrev pub AreKnownBy : Sheller → ℕ → ℕ → WideTree → Before → List
     Type 0
 AreKnownBy sheller k c t e old new o = AreKnown (λ held. layer_costs_by held sheller k c t e) old new o
 
--- so a tree in layers
+-- what a tree in layers with k levels and c steps costs of layers
 abbrev pub AreKnownIn : Sheller → ℕ → List Layer → ℕ → WideTree → Before → List TreeTrace → List TreeTrace →
     Option WideTrace → Type 0
 AreKnownIn sheller k ls c t e old new o = AreKnown (λ held. layer_costs_in held sheller k ls c t e) old new o

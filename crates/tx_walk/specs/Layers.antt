@@ -49,7 +49,7 @@ set_sizes (p ∷ ps) = size_of p.1 + set_sizes ps
 
 -- ---- steps
 
--- behind some names and trees: what they came to, what each name is to be set to, what names have, and the steps
+-- after some names and trees: what they evaluated to, what each name is to be set to, what names have, and the steps
 -- counted
 pub record LayerStage : Type 0 where
   pub joined : SoFar
@@ -75,7 +75,7 @@ pub record TreeDone (held : Holder) (k c : ℕ) (x : Name) (t : WideTree) (s s1 
   pub names : s1.names ≡ env_atop trace.writes s.names
   pub count : s1.count ≡ s.count + (if held t s.names then 0 else trace.cost)
 
--- it is over
+-- it runs out
 pub record TreeOver (held : Holder) (k c : ℕ) (t : WideTree) (s s1 : LayerStage) : Type 0 where
   pub comes : evaluates_bare k (c - s.joined.cost) t s.names ≡ None
   pub count : s1.count ≡ s.count + (if held t s.names then 0 else c - s.joined.cost)
@@ -93,7 +93,7 @@ pub record SettingDone (held : Holder) (k c : ℕ) (x : Name) (t : WideTree) (s 
   pub named : evaluates_bare k (c - s.joined.cost) (leaf x) s.names ≡ Some (name_trace x)
   pub done : TreeDone held k c x t (behind_name x s) s1
 
--- one of them is over
+-- one of them runs out
 pub data SettingOver (held : Holder) (k c : ℕ) (x : Name) (t : WideTree) (s s1 : LayerStage) : Type 0 where
   at_name : evaluates_bare k (c - s.joined.cost) (leaf x) s.names ≡ None → s1.count ≡ s.count →
       SettingOver held k c x t s s1
@@ -115,7 +115,7 @@ pub record LayerDone (held : Holder) (k c : ℕ) (l : Layer) (s s1 : LayerStage)
       tree_counts_from more measure k c 0 nothing_yet l.names l.trees s.names ≡ 0
   pub many : length s1.joined.values ≡ 2 * length l.names
 
--- one of them is over
+-- one of them runs out
 pub record LayerOver (held : Holder) (k c : ℕ) (l : Layer) (s s1 : LayerStage) : Type 0 where
   pub comes : children_from (evaluates_bare k) c 0 nothing_yet (in_turn l.names l.trees) s.names ≡ None
   pub count : s1.count ≡ s.count + tree_counts_from held paid k c 0 nothing_yet l.names l.trees s.names

@@ -1,4 +1,4 @@
--- What stands at other names than these.
+-- Entries at other names than these.
 use Rattle.std.specs.Prelude.{Bool, List, [], ◌∷◌, if◌then◌else◌}
 use Rattle.std.specs.List.{list_any}
 use Rattle.std.specs.Str.{bytes_eq}

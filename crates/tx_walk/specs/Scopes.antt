@@ -1,4 +1,4 @@
--- What a `with` comes to.
+-- What a `with` evaluates to.
 use Rattle.std.specs.Prelude.{◌≡◌, ◌<◌, ℕ, ◌+◌, List, [], ◌∷◌, ◌++◌, length, codes, Some}
 use Rattle.tx_tree.specs.WideTree.{WideTree, total_size, deepest}
 use Rattle.tx_env.specs.Environments.{NameMap}

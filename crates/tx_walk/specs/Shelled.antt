@@ -1,4 +1,4 @@
--- What stands in layers comes to, step by step.
+-- What a tree in layers evaluates to, step by step.
 use Rattle.std.specs.Prelude.{◌≡◌, ◌<◌, ℕ, ◌+◌, max, [], ◌∷◌, ◌++◌, length, Option, Some, None, codes}
 use Rattle.tx_tree.specs.WideTree.{total_size, deepest}
 use Rattle.tx_env.specs.Environments.{NameMap}
@@ -23,7 +23,7 @@ pub record IsCountedTrace (trace : WideTrace) : Type 0 where
   pub cost : trace.cost < 1000000
   pub height : trace.height < 400
 
--- A layer that has set this and costs so much, whose names and trees came to this, round what has this trace.
+-- A layer that has set this and costs so much, whose names and trees evaluated to this, round what has this trace.
 abbrev pub layer_by : NameMap → SoFar → ℕ → WideTrace → WideTrace
 layer_by own a cost trace = record {
   value = made (codes "with") (vals (a.values ++ trace.value ∷ [])) None;
@@ -41,7 +41,7 @@ pub record FitsLayer (a : SoFar) (cost : ℕ) (trace : WideTrace) : Type 0 where
   pub sum : cost + trace.cost < 1000001
   pub height : max a.height trace.height < 400
 
--- what names have behind a layer that has set this, where what is inside isn't over
+-- what names have after a layer that has set this, where what is inside doesn't run out
 abbrev pub BehindLayer : NameMap → Before → Before → Option WideTrace → Type 0
 BehindLayer own before after None = Unit {0}
 BehindLayer own before after (Some trace) = after ≡ env_atop (past own trace.writes) before

@@ -1,11 +1,11 @@
 -- What a walk has spent.
 use Rattle.std.specs.Prelude.{◌≡◌, ◌≤◌, ◌-◌, ◌^◌, ℕ, min}
 
--- what a counter of 64 bits has that is raised to n: it stands still at its greatest value
+-- a counter of 64 bits that is raised to n: it saturates at its greatest value
 abbrev pub capped : ℕ → ℕ
 capped n = min n (2 ^ 64 - 1)
 
--- `spent` is by how much the steps have risen since they were as many as at the start, as far as a counter tells
+-- `spent` is by how much the steps have risen since the start, up to a counter's greatest value
 abbrev pub IsSpentSince : ℕ → ℕ → ℕ → Type 0
 IsSpentSince start steps spent = (start ≤ steps) × (spent ≡ capped (steps - start))
 

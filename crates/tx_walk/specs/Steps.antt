@@ -29,37 +29,37 @@ use Rattle.tx_walk.specs.Walked.{IsTidy, IsPlaced, Seen, seen, seen_in}
 abbrev pub trace_under : List ℕ → WideTrace → WideTrace
 trace_under base trace = record trace { value = value_under base trace.value }
 
--- what names have behind a tree that isn't over
+-- what names have after a tree that doesn't run out
 abbrev pub IsBehind : Before → Before → Option WideTrace → Type 0
 IsBehind before after None = Unit {0}
 IsBehind before after (Some trace) = after ≡ env_atop trace.writes before
 
--- the parts of a tree that isn't over come behind the others
+-- the parts of a tree that doesn't run out are put after the others
 abbrev pub IsAdded : Stores → List Part → List DonePart → List DonePart → Option WideTrace → Type 0
 IsAdded kept ps old new None = Unit {0}
 IsAdded kept ps old new (Some trace) = map seen new ≡ map seen old ++ map (seen_in kept) ps
 
--- a tree that is over has none
+-- a tree that runs out has none
 abbrev pub parts_if_done : Option WideTrace → List DonePart → List DonePart
 parts_if_done None ps = []
 parts_if_done (Some trace) ps = ps
 
--- what a part with this trace comes to, of so many levels and steps
+-- what a part with this trace evaluates to, with so many levels and steps
 abbrev pub settled : ℕ → ℕ → List ℕ → WideTrace → Option WideTrace
 settled k c base trace =
     if nat_le trace.cost c && nat_le trace.height k then Some (trace_under base trace) else None
 
--- a part as a walk answers it
+-- a part as a walk returns it
 pub record IsReady (p : DonePart) : Type 0 where
   pub tidy : IsTidy p
   pub placed : IsPlaced p
 
--- the part comes behind the others
+-- the part is put after the others
 abbrev pub IsPushed : List DonePart → DonePart → List DonePart → Option WideTrace → Type 0
 IsPushed old p new None = Unit {0}
 IsPushed old p new (Some trace) = new ≡ old ++ p ∷ []
 
--- the part that was evaluated comes behind the others
+-- the part that was evaluated is put after the others
 pub record NewPushed (k c : ℕ) (path : List ℕ) (t : WideTree) (e : Before) (old new : List DonePart) : Type 0 where
   pub part : DonePart
   pub pushed : new ≡ old ++ part ∷ []
@@ -82,11 +82,11 @@ so_far_of j = record {
   height = j.height;
 }
 
--- with this look behind the others, unless the name was set
+-- with this look after the others, unless the name was set
 abbrev pub look_behind : NameMap → LookMap → Name → Option WideTree → LookMap
 look_behind own looks x found = if is_some (get own x) then looks else noted looks x found
 
--- with this trace behind the others
+-- with this trace after the others
 abbrev pub joined_with : SoFar → WideTrace → SoFar
 joined_with a trace = record {
   values = a.values ++ trace.value ∷ [];
@@ -96,7 +96,7 @@ joined_with a trace = record {
   height = max a.height trace.height;
 }
 
--- what was joined, where nothing more is where the trace is none
+-- what was joined: nothing more, where there is no trace
 abbrev pub IsJoined : SoFar → SoFar → Option WideTrace → Bool → Type 0
 IsJoined a b None went = went ≡ false
 IsJoined a b (Some trace) went = (went ≡ true) × (b ≡ joined_with a trace)
@@ -119,12 +119,12 @@ pub record FitsNode (a : SoFar) : Type 0 where
   pub cost : a.cost < 1000000
   pub height : a.height < 400
 
--- the values of what children came to, under the path
+-- what children evaluated to, with the origins of their values under the path
 abbrev pub below : List ℕ → SoFar → SoFar
 below base a = record a { values = map (value_under base) a.values }
 
--- behind some children: what they came to, what names have, the parts that were gone through, the steps counted, and
--- what trees of layers came to
+-- after some children: what they evaluated to, what names have, the parts that are done, the steps counted, and the
+-- traces of layers' trees
 pub record Stage : Type 0 where
   pub joined : SoFar
   pub names : Before
@@ -148,7 +148,7 @@ pub record ChildDone (guide : Guide) (k c : ℕ) (path : List ℕ) (i : ℕ) (t 
   pub known : LayersKnown (λ held. layer_costs_by held guide.sheller k (c - s.joined.cost) t s.names)
       s.layers s1.layers
 
--- it is over
+-- it runs out
 pub record ChildOver (guide : Guide) (k c : ℕ) (path : List ℕ) (i : ℕ) (t : WideTree) (s s1 : Stage) : Type 0 where
   pub comes : evaluates k (c - s.joined.cost) t s.names ≡ None
   pub count : s1.count ≡ s.count + charged guide k (c - s.joined.cost) (path ++ i ∷ []) t s.names
@@ -171,7 +171,7 @@ pub record ChildrenDone (guide : Guide) (k c : ℕ) (path : List ℕ) (kids : Li
         s.layers s1.layers
     pub many : length so_far.values ≡ length kids
 
--- one of them is over
+-- one of them runs out
 pub record ChildrenOver (guide : Guide) (k c : ℕ) (path : List ℕ) (kids : List WideTree) (s s1 : Stage) : Type 0 where
   pub comes : children_from (evaluates k) c 0 nothing_yet kids s.names ≡ None
   pub count : s1.count ≡ s.count + charged_from guide k c path 0 nothing_yet kids s.names

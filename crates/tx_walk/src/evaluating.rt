@@ -14,7 +14,7 @@ use tx_exec::{Outcome, eval};
 use tx_origin::{Ip, Tagged};
 use tx_tree::Tree;
 
-// What the tree at this origin comes to without a frame, with all levels.
+// What the tree at this origin evaluates to without a frame, with all levels.
 fn eval_at<L: Ledger>(
     alloc: Global,
     t: &Tree,
@@ -37,7 +37,7 @@ fn eval_at<L: Ledger>(
     eval(alloc, &tagged, env, left, steps)
 }
 
-// The same with so many levels. Where they don't suffice all steps that are left are taken.
+// What the tree evaluates to with so many levels. Where they don't suffice, all steps that are left are taken.
 fn eval_within<L: Ledger>(
     alloc: Global,
     t: &Tree,
@@ -67,7 +67,7 @@ fn eval_within<L: Ledger>(
     }
 }
 
-// What it takes of the steps that are left: all of them where it is over.
+// What it takes of the steps that are left: all of them where it ran out.
 fn paid_of(outcome: &Outcome, left: u64) -> u64
     ensures { result ≡ paid left (wide_outcome outcome.now) }
 {
@@ -77,7 +77,7 @@ fn paid_of(outcome: &Outcome, left: u64) -> u64
     }
 }
 
-/// What the tree at this origin comes to without a frame, with so many levels and steps. What it takes is spent.
+/// What the tree at this origin evaluates to without a frame, with so many levels and steps. What it takes is spent.
 pub(crate) fn spend_on<L: Ledger>(
     alloc: Global,
     t: &Tree,

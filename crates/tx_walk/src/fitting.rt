@@ -1,4 +1,4 @@
-// Whether what is kept of a part can be used.
+// Whether the cached trace of a part can be used.
 ghost use Rattle.std.specs.Prelude.{◌≡◌, true, false, Some, None, MatchOption};
 ghost use Rattle.std.specs.List.{list_all, All, IsDistinct};
 ghost use Rattle.std.specs.FinMap as maps;
@@ -57,7 +57,7 @@ fn fits(env: &Env, part: &Part) -> bool
     looks_agree(env, &part.trace.looks)
 }
 
-// What is kept at the path, if it fits what names have. The number that is likely next is kept in `next`.
+// The cached part at the path, if its trace fits what names have. `next` is the number that is likely next.
 fn found<'a>(env: &Env, kept: &PriorParts<'a>, path: &Path, next: &mut usize) -> Option<&'a Part>
     requires tidy { All IsTidy kept.now }
     requires distinct { IsDistinct bytes_eq (paths_of kept.now) }
@@ -78,16 +78,15 @@ fn found<'a>(env: &Env, kept: &PriorParts<'a>, path: &Path, next: &mut usize) ->
     }
 }
 
-/// A part that holds the one at its path. `renewed` says that nothing that is kept there fits, so that it is the
-/// spare's.
+/// A part that holds the one at its path. `renewed` says that no cached trace there fits, so that this is the spare's.
 #[derive(Drop)]
 pub(crate) struct HeldPart<'a> {
     pub part: &'a Part,
     pub renewed: bool,
 }
 
-/// What holds the part at the path where names have this: what is kept there, and else what the spare has. The numbers
-/// that are likely next are kept in `next`.
+/// What holds the part at the path where names have this: the cached part there, or else the spare's. `next` has the
+/// numbers that are likely next.
 pub(crate) fn held<'a>(
     env: &Env,
     kept: &PriorStores<'a>,
@@ -112,8 +111,8 @@ pub(crate) fn held<'a>(
     })
 }
 
-/// What holds the layer's tree where names have this: what is kept, and else the spare. The numbers that are likely
-/// next are kept in `next`.
+/// What holds the layer's tree where names have this: a cached trace, or else the spare's. `next` has the numbers that
+/// are likely next.
 pub(crate) fn held_layer<'a>(
     env: &Env,
     kept: &PriorStores<'a>,

@@ -1,4 +1,4 @@
-// What trees one behind the other come to together.
+// What trees in order evaluate to together.
 ghost use Rattle.std.specs.Prelude.{◌≡◌, ◌≤◌, ◌+◌, [], ◌∷◌, ◌++◌, is_some, cond, IfOk, OnOk, IfSome};
 ghost use Rattle.std.specs.List.{IsDistinct};
 ghost use Rattle.std.specs.Map.{keys_of};
@@ -19,8 +19,8 @@ use tx_exec::{Looks, Outcome, Trace};
 use tx_origin::Value;
 use tx_tree::{Text, Tree, share_tree};
 
-/// What trees one behind the other come to together: their values, what they looked up and none before them had set,
-/// what they have set, what they cost, and the levels that they need.
+/// What trees in order evaluate to together: their values, what they looked up and none before them had set, what they
+/// have set, what they cost, and the levels that they need.
 #[derive(Drop)]
 pub(crate) struct Joined {
     pub values: Vec<Value>,
@@ -40,7 +40,7 @@ pub(crate) fn note_look(looks: &mut Pairs, name: &Text, found: &Option<Tree>) ->
     looks.put(name.copy()?, share_tree(found)?)
 }
 
-// A look that comes behind others, unless the name is one of those that were set.
+// Adds a look after others, unless the name is one of those that were set.
 fn join_look(
     own: &Pairs,
     looks: &mut Pairs,
@@ -56,7 +56,7 @@ fn join_look(
     }
 }
 
-// The looks that come behind others, but those at names that were set.
+// Adds looks after others, but those at names that were set.
 pub(crate) fn join_looks(own: &Pairs, looks: &mut Pairs, more: &Looks) -> Result<(), Memory>
     ensures { OnOk result (from_entries looks.new
         ≡ both_looks (from_entries looks.old) (map_of own.now) (from_entries more.now)) }
@@ -67,7 +67,7 @@ pub(crate) fn join_looks(own: &Pairs, looks: &mut Pairs, more: &Looks) -> Result
     Ok(())
 }
 
-// What is set behind what was set.
+// Adds what is set after what was set.
 pub(crate) fn join_writes(own: &mut Pairs, more: &Writes) -> Result<(), Memory>
     requires { IsDistinct bytes_eq (keys_of more.now) }
     ensures { OnOk result (map_of own.new ≡ atop (from_entries more.now) (map_of own.old)) }
@@ -92,7 +92,7 @@ impl Joined {
         }
     }
 
-    // With this trace behind the others.
+    // Adds this trace after the others.
     pub(crate) fn add(&mut self, trace: Trace) -> Result<(), Memory>
         requires cost { self.old.cost + trace.cost ≤ 1000000 }
         requires once { IsDistinct bytes_eq (keys_of trace.writes) }
@@ -113,7 +113,7 @@ impl Joined {
         mem::replace(self, Joined::new(alloc))
     }
 
-    /// With this trace behind the others, and whether there is one.
+    /// Adds this trace after the others, and returns whether there is one.
     pub(crate) fn add_outcome(&mut self, outcome: Outcome) -> Result<bool, Memory>
         requires cost { IfSome (wide_outcome outcome) (λ t. self.old.cost + t.cost ≤ 1000000) }
         requires once { NamesOnce outcome }

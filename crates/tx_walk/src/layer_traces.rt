@@ -1,4 +1,4 @@
-// What is kept of the trees of layers.
+// The cached traces of layers' trees.
 ghost use Rattle.std.specs.Prelude.{◌≡◌, true, false, IfOk, IsTrue, MatchOption};
 ghost use Rattle.std.specs.FinMap.{from_entries};
 ghost use Rattle.tx_origin.specs.Values.{plain};
@@ -20,9 +20,8 @@ use tx_env::Env;
 use tx_exec::{Looks, Trace};
 use tx_tree::{Text, Tree};
 
-/// What is kept of a layer's tree: what it comes to without an origin and without a frame, and what a name is set to by
-/// it. Contracts see the tree and the trace. Each trace is what the tree comes to wherever the names that it looked up
-/// have the same.
+/// A cached tree of a layer: its trace without an origin and without a frame, and what a name is set to by it.
+/// Contracts see the tree and the trace. The trace is the tree's in each environment that agrees with its looks.
 #[derive(Drop)]
 pub struct LayerTrace {
     tree: Tree,
@@ -45,7 +44,7 @@ impl Model for LayerTrace {
 }
 
 impl LayerTrace {
-    /// What the tree came to.
+    /// The tree, with this trace.
     pub(crate) fn new(tree: Tree, trace: Trace, set: Tree) -> LayerTrace
         requires supports { Supports (wide_trace trace) (bare tree) }
         requires once { AreOnce trace }
@@ -62,7 +61,7 @@ impl LayerTrace {
         &self.tree
     }
 
-    /// What it comes to.
+    /// Its trace.
     pub fn trace(&self) -> &Trace
         ensures is { wide_trace result.now ≡ self.now.trace }
         ensures supports { Supports self.now.trace (bare self.now.tree) }
@@ -78,7 +77,7 @@ impl LayerTrace {
         &self.set
     }
 
-    /// The same. It shares its trees and its value. The one error is want of memory.
+    /// A copy, which shares its trees and its value. The one error is `Memory`.
     pub fn share(&self, alloc: Global) -> Result<LayerTrace, Memory>
         ensures { IfOk result (λ m. m ≡ self.now) }
     {
@@ -89,7 +88,7 @@ impl LayerTrace {
         })
     }
 
-    // Whether it is what this tree comes to where names have this.
+    // Whether it has the trace of this tree where names have this.
     fn serves(&self, env: &Env, t: &Tree) -> bool
         ensures { result ≡ serves_for t.now (before_of env.now) self.now }
     {
@@ -128,7 +127,7 @@ fn same_look(look: &(Text, Option<Tree>), other: &(Text, Option<Tree>)) -> bool
     look.0.bytes() == other.0.bytes() && same_found(&look.1, &other.1)
 }
 
-// Whether the same was found, or nothing.
+// Whether equal trees were found, or nothing.
 fn same_found(found: &Option<Tree>, other: &Option<Tree>) -> bool
     ensures { IsTrue result → found.now ≡ other.now }
 {
@@ -152,7 +151,7 @@ pub(crate) fn is_listed(layers: &[LayerTrace], tree: &Tree, looks: &Looks) -> bo
     false
 }
 
-/// What holds the tree where names have this. The number of what is likely next is kept in `next`.
+/// What holds the tree where names have this. `next` is the number that is likely next.
 pub(crate) fn found_layer<'a>(
     env: &Env,
     all: &'a [LayerTrace],

@@ -37,7 +37,7 @@ use tx_env::Env;
 use tx_exec::Outcome;
 use tx_tree::{Path, Text, Tree};
 
-/// What a tag with this shell comes to.
+/// What a tag with this shell evaluates to.
 #[cycle(walk)]
 pub(crate) fn shelled<O: Opener, L: Ledger>(
     alloc: Global,
@@ -103,7 +103,7 @@ pub(crate) fn shelled<O: Opener, L: Ledger>(
     tag_of(alloc, look, outcome)
 }
 
-// What a tree in layers comes to, which is the child of this number.
+// What a tree in layers, which is the child of this number, evaluates to.
 #[cycle(walk)]
 fn in_layers<O: Opener, L: Ledger>(
     alloc: Global,
@@ -162,7 +162,7 @@ fn in_layers<O: Opener, L: Ledger>(
     }
 }
 
-// What a tree in no more layers comes to.
+// What a tree in no more layers evaluates to.
 #[cycle(walk)]
 fn in_child<O: Opener, L: Ledger>(
     alloc: Global,
@@ -222,7 +222,7 @@ fn in_child<O: Opener, L: Ledger>(
     Ok(stepped(outcome))
 }
 
-// What a tree in this layer and the inner ones comes to.
+// What a tree in this layer and the inner ones evaluates to.
 #[cycle(walk)]
 fn in_layer<O: Opener, L: Ledger>(
     alloc: Global,
@@ -290,7 +290,7 @@ fn in_layer<O: Opener, L: Ledger>(
     )
 }
 
-// The same, where nothing of the layer was evaluated yet.
+// What a tree in this layer and the inner ones evaluates to, where nothing of the layer was evaluated yet.
 #[cycle(walk)]
 fn through_layer<O: Opener, L: Ledger>(
     alloc: Global,
@@ -360,7 +360,7 @@ fn through_layer<O: Opener, L: Ledger>(
     )
 }
 
-// What it comes to, where the names and the trees of the layer came to this.
+// What a tree in this layer and the inner ones evaluates to, after the names and the trees of the layer.
 #[cycle(walk)]
 fn behind_values<O: Opener, L: Ledger>(
     alloc: Global,
@@ -440,7 +440,7 @@ fn behind_values<O: Opener, L: Ledger>(
     layer_of(alloc, env, &pairs, &mut so_far.joined, cost, outcome)
 }
 
-// What a tree in layers comes to where these are set. Afterwards they aren't.
+// What a tree in layers evaluates to where these pairs are set. The environment is unchanged afterwards.
 #[cycle(walk)]
 fn inside_layer<O: Opener, L: Ledger>(
     alloc: Global,
@@ -489,7 +489,7 @@ fn inside_layer<O: Opener, L: Ledger>(
     outcome
 }
 
-// Sets these, and answers what the tree in layers comes to.
+// Sets these pairs, and returns what the tree in layers evaluates to.
 #[cycle(walk)]
 fn set_layer<O: Opener, L: Ledger>(
     alloc: Global,

@@ -33,7 +33,7 @@ use tx_exec::{Looks, Outcome, Trace};
 use tx_origin::Value;
 use tx_tree::{Text, Tree};
 
-/// What names and trees of a layer came to so far, and what each name is to be set to.
+/// What names and trees of a layer evaluated to so far, and what each name is to be set to.
 #[derive(Drop)]
 pub(crate) struct LayerSoFar {
     pub joined: Joined,
@@ -55,7 +55,7 @@ fn name_trace(alloc: Global, name: &Text) -> Result<Trace, Memory>
 }
 
 impl Joined {
-    // A name more. The answer is false where its cost isn't allowed.
+    // Adds a name. Returns false where its cost isn't allowed.
     fn add_name(&mut self, alloc: Global, name: &Text, left: u64) -> Result<bool, Memory>
         requires cost { self.old.cost ≤ left }
         requires left { left ≤ 1000000 }
@@ -82,7 +82,7 @@ impl LayerSoFar {
         }
     }
 
-    // A tree more, which is done. What it sets is set.
+    // Adds a tree, which is done. What it sets is set.
     fn add_done(&mut self, alloc: Global, setting: TreeSetting, env: &mut Env) -> Result<(), Memory>
         requires cost { self.old.joined.cost + setting.done.trace.cost ≤ 1000000 }
         ensures joined { OnOk result
@@ -97,7 +97,7 @@ impl LayerSoFar {
         Ok(())
     }
 
-    // A tree more, which is held by this. The answer is false where it isn't allowed.
+    // Adds a tree, which is held by this. Returns false where its cost or its height isn't allowed.
     fn add_held(
         &mut self,
         alloc: Global,
@@ -123,7 +123,7 @@ impl LayerSoFar {
         Ok(true)
     }
 
-    // A tree more, which is evaluated. The answer is false where it is over.
+    // Adds a tree, which is evaluated. Returns false where it runs out.
     fn add_new<L: Ledger>(
         &mut self,
         alloc: Global,
@@ -155,7 +155,7 @@ impl LayerSoFar {
         }
     }
 
-    // A tree more. It is evaluated where it isn't held. The answer is false where it is over.
+    // Adds a tree. It is evaluated where it isn't held. Returns false where it runs out.
     fn add_tree<L: Ledger>(
         &mut self,
         alloc: Global,
@@ -183,7 +183,7 @@ impl LayerSoFar {
         }
     }
 
-    // A name and its tree more. The answer is false where one of them is over.
+    // Adds a name and its tree. Returns false where one of them runs out.
     fn add_setting<L: Ledger>(
         &mut self,
         alloc: Global,
@@ -215,7 +215,7 @@ impl LayerSoFar {
         self.add_tree(alloc, name, t, env, levels, left, kept, progress, steps)
     }
 
-    /// All names and trees of the layer, one behind the other. The answer is false where one is over.
+    /// Adds all names and trees of the layer, in order. Returns false where one runs out.
     pub(crate) fn add_layer<L: Ledger>(
         &mut self,
         alloc: Global,
@@ -258,7 +258,7 @@ impl LayerSoFar {
     }
 }
 
-/// What the layer costs, where its names and trees, and its node, cost `base`: the sizes of the values more. None where
+/// What the layer costs: `base`, which its names, its trees and its node cost, and the sizes of the values. None where
 /// that is more than what is left.
 pub(crate) fn cost_within(settings: &[TreeSetting], base: u64, left: u64) -> Option<u64>
     requires left { left ≤ 1000000 }

@@ -1,7 +1,7 @@
-//! A unit evaluated by its parts: what is kept of a part is used again where it still fits.
+//! A unit evaluated by its parts: the cached trace of a part is used again where it still fits.
 //!
-//! [`walk`] answers what evaluating the whole tree answers, and the traces of its parts. It evaluates and counts only
-//! the parts of which nothing that fits is kept, nor is spare.
+//! [`walk`] returns what evaluating the whole tree returns, and the traces of its parts. It evaluates and counts only
+//! the parts of which neither the cache nor the spare has a trace that fits.
 #![tactic(auto)]
 
 mod descent;

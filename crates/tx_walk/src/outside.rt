@@ -17,7 +17,7 @@ fn is_among(pairs: &[(Text, Tree)], name: &Text) -> bool
     pairs.iter().any(|pair| pair.0.bytes() == name.bytes())
 }
 
-// A look more, unless the name is one of these.
+// Adds a look, unless the name is one of these.
 fn keep_look(
     pairs: &[(Text, Tree)],
     kept: &mut Vec<(Text, Option<Tree>)>,
@@ -34,7 +34,7 @@ fn keep_look(
     Ok(())
 }
 
-// A name more that is set, unless it is one of these.
+// Adds a name that is set, unless it is one of these.
 fn keep_write(
     pairs: &[(Text, Tree)],
     kept: &mut Vec<(Text, Tree)>,

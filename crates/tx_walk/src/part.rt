@@ -10,20 +10,20 @@ use tx_exec::Trace;
 use tx_origin::Value;
 use tx_tree::Path;
 
-/// A part of a unit, with what it comes to.
+/// A part of a unit, with its trace.
 #[derive(Drop)]
 pub struct Part {
-    /// Where it stands.
+    /// Its path.
     pub path: Path,
     /// Its trace alone, with origins that begin at the part.
     pub trace: Trace,
-    /// Whether nothing that fits was kept of it, so that it was evaluated, or is the spare's.
+    /// Whether no cached trace of it fits, so that it was evaluated, or is the spare's.
     pub renewed: bool,
     /// The value of its trace with origins that begin at the unit, where it is at hand.
     pub placed: Option<Value>,
 }
 
-// The value, or nothing again.
+// A copy of the value, or nothing.
 fn share_value(value: &Option<Value>) -> Result<Option<Value>, Memory>
     ensures { IfOk result (λ v. v ≡ value.now) }
 {
@@ -34,7 +34,7 @@ fn share_value(value: &Option<Value>) -> Result<Option<Value>, Memory>
 }
 
 impl Part {
-    // The value in the unit of the part, if it stands at this path, where it is at hand.
+    // The part's value in the unit, where it is at hand and the part is at this path.
     fn placed_at(&self, path: &Path) -> Result<Option<Value>, Memory>
         requires { IsTidy self.now }
         ensures { IfOk result (λ o. IfSome o (λ v. v ≡ value_under path.now self.now.trace.value)) }
@@ -45,7 +45,7 @@ impl Part {
         Ok(None)
     }
 
-    /// The same part, where it stands at this path. It isn't renewed.
+    /// A copy of the part at this path. It isn't renewed.
     pub fn moved(&self, alloc: Global, path: Path) -> Result<Part, Memory>
         requires tidy { IsTidy self.now }
         ensures path { IfOk result (λ p. p.path ≡ path) }

@@ -1,4 +1,4 @@
-// Parts that are kept, found by their paths.
+// Cached parts, found by their paths.
 ghost use Rattle.std.specs.Prelude.{◌≡◌, true, None, MatchOption, IsTrue};
 ghost use Rattle.std.specs.List.{IsDistinct};
 ghost use Rattle.std.specs.Str.{bytes_eq};
@@ -11,8 +11,7 @@ use std::cmp::Ordering;
 use std::marker::Model;
 use tx_tree::Path;
 
-/// Parts that are kept, and whether their paths are known to be in order, as those of each walk are. Contracts see the
-/// parts.
+/// Cached parts, and whether their paths are known to be in order, as those of each walk are. Contracts see the parts.
 #[derive(Drop)]
 pub(crate) struct PriorParts<'a> {
     all: &'a [Part],
@@ -53,7 +52,7 @@ fn are_sorted(parts: &[Part]) -> bool
     true
 }
 
-// Whether the part stands at the path.
+// Whether the part is at the path.
 fn stands_at(part: &Part, path: &Path) -> bool
     ensures { result ≡ bytes_eq part.now.path path.now }
 {
@@ -130,7 +129,7 @@ impl<'a> PriorParts<'a> {
     }
 }
 
-/// Parts that are kept, and those of the spare, and what is kept of layers, and is spare.
+/// The cached parts and those of the spare, the cached traces of layers' trees and those of the spare.
 #[derive(Drop)]
 pub(crate) struct PriorStores<'a> {
     pub own: PriorParts<'a>,

@@ -1,11 +1,11 @@
-// How far a walk has come.
+// The progress of a walk.
 ghost use Rattle.std.specs.Prelude.{◌≡◌, ◌+◌, []};
 ghost use Rattle.tx_walk.specs.Spending.{capped};
 
 use crate::layer_traces::LayerTrace;
 use std::alloc::Global;
 
-/// The numbers of what is likely next, of the parts and the layers' trees that are kept and of the spare's.
+/// The numbers that are likely next: of parts and of layers' trees, each in the cache and in the spare.
 #[derive(Drop)]
 pub(crate) struct NextNumbers {
     pub own: usize,
@@ -14,8 +14,8 @@ pub(crate) struct NextNumbers {
     pub spare_layers: usize,
 }
 
-/// The numbers of what is likely next, the steps spent so far, and what layers' trees came to so far. The steps stand
-/// still at the greatest value of the counter, which no walk reaches.
+/// The numbers that are likely next, the steps spent so far, and the traces of layers' trees so far. The count of steps
+/// saturates at the counter's greatest value, which no walk reaches.
 #[derive(Drop)]
 pub(crate) struct WalkProgress {
     pub next: NextNumbers,

@@ -1,4 +1,4 @@
-// What a `with` comes to, by its last child.
+// What a `with` evaluates to, by its last child.
 ghost use Rattle.std.specs.Prelude.{◌≡◌, ◌<◌, ◌++◌, ◌∷◌, [], length, codes, IfOk, OnOk, IfSome, Some};
 ghost use Rattle.std.specs.Option.{option_map};
 ghost use Rattle.std.specs.FinMap.{empty};
@@ -82,7 +82,7 @@ fn with_trace(
     })
 }
 
-// The same, and what it sets is set.
+// What the `with` at this origin evaluates to, where its last child has this trace. What it sets is set.
 fn close(
     alloc: Global,
     t: &Tree,
@@ -110,7 +110,7 @@ fn close(
     Ok(Outcome::Done(trace))
 }
 
-/// What the `with` at this origin comes to, where its last child came to this.
+/// What the `with` at this origin evaluates to, where its last child evaluated to this.
 pub(crate) fn with_of(
     alloc: Global,
     t: &Tree,

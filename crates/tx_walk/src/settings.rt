@@ -30,7 +30,7 @@ fn text_value(alloc: Global, base: &Ip, i: u32, words: &Text) -> Result<Value, M
     Value::leaf(alloc, words.copy()?, Some(at))
 }
 
-// The values of a name and its text, which are the children from number i on, behind the others.
+// Adds the values of a name and its text, which are the children from number i on, after the others.
 fn add_values(
     alloc: Global,
     base: &Ip,
@@ -48,7 +48,7 @@ fn add_values(
     Ok(())
 }
 
-// The name with its text behind the others.
+// Adds the name with its text after the others.
 fn add_pair(
     alloc: Global,
     name: &Text,
@@ -75,7 +75,7 @@ impl Settings {
         }
     }
 
-    // With this name and this text behind the others, which are the children from number i on.
+    // Adds this name and this text, which are the children from number i on, after the others.
     fn add(
         &mut self,
         alloc: Global,
@@ -112,7 +112,7 @@ pub fn text_at(t: &Tree, i: u32) -> Option<&Text>
     }
 }
 
-// Whether the names and texts cost no more than this. They are put behind those so far.
+// Whether the names and texts cost no more than this. They are put after those so far.
 fn add_all(
     alloc: Global,
     t: &Tree,

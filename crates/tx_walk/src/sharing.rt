@@ -32,7 +32,7 @@ fn share_writes(alloc: Global, writes: &Writes) -> Result<Writes, Memory>
     Ok(Writes::new(pairs))
 }
 
-/// The same trace. It shares its value and its trees. The one error is want of memory.
+/// A copy of the trace, which shares its value and its trees. The one error is `Memory`.
 pub fn share_trace(alloc: Global, trace: &Trace) -> Result<Trace, Memory>
     ensures { IfOk result (λ t. t ≡ trace.now) }
 {
@@ -45,7 +45,7 @@ pub fn share_trace(alloc: Global, trace: &Trace) -> Result<Trace, Memory>
     })
 }
 
-/// The value under the path. At the root it is the same.
+/// The value under the path. At the root it is unchanged.
 pub(crate) fn value_at(alloc: Global, path: &Path, value: &Value) -> Result<Value, Memory>
     ensures { IfOk result (λ v. v ≡ value_under path.now value.now) }
 {
@@ -56,7 +56,7 @@ pub(crate) fn value_at(alloc: Global, path: &Path, value: &Value) -> Result<Valu
     value.under(alloc, &base)
 }
 
-/// The part's value under its path. It is made anew only where it isn't at hand. The one error is want of memory.
+/// The part's value under its path. It is made anew only where it isn't at hand. The one error is `Memory`.
 pub fn placed_value(alloc: Global, part: &Part) -> Result<Value, Memory>
     requires { IsTidy part.now }
     ensures { IfOk result (λ v. v ≡ value_under part.now.path part.now.trace.value) }

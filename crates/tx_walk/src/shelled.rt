@@ -1,4 +1,4 @@
-// Tags with shells, and what stands in layers.
+// Tags with shells, and trees in layers.
 ghost use Rattle.std.specs.Prelude.{◌≡◌, ◌<◌, ◌++◌, ◌∷◌, [], length, codes, IfOk, OnOk, IfSome, None};
 ghost use Rattle.std.specs.Option.{option_map};
 ghost use Rattle.std.specs.FinMap.{get, empty, from_entries};
@@ -107,7 +107,7 @@ fn tag_trace(alloc: Global, mut looks: Pairs, trace: Trace) -> Result<Trace, Mem
     })
 }
 
-/// What a tag comes to that looks its label up so, where its child in its layers comes to this.
+/// What a tag evaluates to that has this look at its label, where its child in its layers evaluates to this.
 pub(crate) fn tag_of(alloc: Global, looks: Pairs, inside: Outcome) -> Result<Outcome, Memory>
     requires counted { IfSome (wide_outcome inside) IsCountedTrace }
     requires once { NamesOnce inside }
@@ -121,7 +121,7 @@ pub(crate) fn tag_of(alloc: Global, looks: Pairs, inside: Outcome) -> Result<Out
     }
 }
 
-/// The same with a step and a level more.
+/// The outcome with a step and a level more.
 pub(crate) fn stepped(outcome: Outcome) -> Outcome
     requires counted { IfSome (wide_outcome outcome) IsCountedTrace }
     requires once { NamesOnce outcome }
@@ -156,7 +156,7 @@ fn layer_value(alloc: Global, mut values: Vec<Value>, inner: Value) -> Result<Va
     }
 }
 
-// With what is looked up and set at other names than these behind the others.
+// Adds what is looked up and set at other names than these, after the others.
 fn join_outside(
     alloc: Global,
     pairs: &[(Text, Tree)],
@@ -177,7 +177,7 @@ fn join_outside(
     join_writes(&mut joined.writes, &writes)
 }
 
-// The trace of a layer that costs so much, of what its names and trees and what is inside it came to together.
+// The trace of a layer that costs so much, made of what its names and trees and what is inside it evaluated to.
 fn layer_trace(
     alloc: Global,
     joined: Joined,
@@ -209,8 +209,8 @@ fn layer_trace(
     })
 }
 
-/// What a layer comes to that sets these pairs and costs so much, where its names and trees came to this, of what is
-/// inside. What that sets, at other names than those of the layer, is set.
+/// What a layer evaluates to that sets these pairs and costs so much, where its names and trees, and what is inside,
+/// evaluated to this. What is set inside, at other names than those of the layer, is set.
 pub(crate) fn layer_of(
     alloc: Global,
     env: &mut Env,

@@ -10,8 +10,8 @@ use std::alloc::Global;
 use tx_base::Memory;
 use tx_tree::{Text, Tree};
 
-/// A `with` that stands round a child of a tag: names, and as many trees, to whose values they are set. At most 32,767
-/// of each, since a tree has at most 65,535 children.
+/// A `with` round a child of a tag: names, and as many trees, to whose values they are set. There are at most 32,767 of
+/// each, since a tree has at most 65,535 children.
 #[derive(Drop)]
 pub struct Layer {
     /// The names, in order.
@@ -20,7 +20,7 @@ pub struct Layer {
     pub values: Vec<Tree>,
 }
 
-/// What a tag does: layers of `with` stand round one of its children.
+/// What a tag does: layers of `with` round one of its children.
 #[derive(Drop)]
 pub struct Shell {
     /// The layers, the outer first.
@@ -29,18 +29,18 @@ pub struct Shell {
     pub inner: u32,
 }
 
-/// What tells shells of tags.
+/// Gives the shells of tags.
 pub trait Opener {
     /// The shell of a tag whose label has this tree, or none.
     ghost opens: { Self → WideOpener };
 
     /// The shell of the tag, any other one than those of the table of evaluation, whose label has the tree `meaning`.
-    /// The one error is want of memory.
+    /// The one error is `Memory`.
     fn shell(&self, alloc: Global, tag: &Tree, meaning: &Tree) -> Result<Option<Shell>, Memory>
         requires { IsOtherTag tag.now }
         ensures { IfOk result (λ s. option_map wide_shell s ≡ opens self.now tag.now meaning.now) };
 
-    /// What it tells of a tag is what the tag does, wherever its label has that tree.
+    /// The shell that it gives is what the tag does, wherever its label has that tree.
     ghost sound: { (opener : Self) → IsOpener (opens opener) };
 }
 

@@ -1,4 +1,4 @@
-// What a tree comes to that isn't gone into: a part.
+// What a tree that isn't open evaluates to: a part.
 ghost use Rattle.std.specs.Prelude.{◌≡◌, ◌≤◌, ◌<◌, ◌+◌, ◌++◌, ◌∷◌, [], Some, None, IfOk, OnOk};
 ghost use Rattle.std.specs.List.{All};
 ghost use Rattle.std.specs.Option.{option_map};
@@ -47,7 +47,7 @@ fn trace_of(alloc: Global, part: &Part, env: &mut Env) -> Result<Trace, Memory>
     placed_trace(alloc, part)
 }
 
-// What this part comes to. It comes behind the other parts, and what it sets is set.
+// What this part evaluates to. It is put after the other parts, and what it sets is set.
 fn settle(alloc: Global, part: Part, env: &mut Env, done: &mut Vec<Part>) -> Result<Outcome, Memory>
     requires part_tidy { IsTidy part }
     requires part_placed { IsPlaced part }
@@ -157,7 +157,7 @@ fn new_part<L: Ledger>(
     }
 }
 
-// What a tree comes to that isn't gone into.
+// What a tree that isn't open evaluates to.
 pub(crate) fn part<O: Opener, L: Ledger>(
     alloc: Global,
     t: &Tree,

@@ -1,4 +1,4 @@
-// Traces of what children came to together.
+// Traces of what children evaluated to together.
 ghost use Rattle.std.specs.Prelude.{◌≡◌, true, false, codes, IfOk, Some, None, if◌then◌else◌};
 ghost use Rattle.tx_tree.specs.WideTree.{label_of};
 ghost use Rattle.tx_exec.specs.Outcomes.{wide_trace, wide_outcome, NamesOnce};
@@ -12,7 +12,7 @@ use tx_base::Memory;
 use tx_exec::{Outcome, Trace, looks_of, writes_of};
 use tx_tree::{Path, Tree};
 
-// The trace of the `document` at this origin, whose children came to this.
+// The trace of the `document` at this origin, whose children evaluated to this.
 fn document_trace(alloc: Global, t: &Tree, path: &Path, joined: Joined) -> Result<Trace, Memory>
     requires label { label_of t.now ≡ Some (codes "document") }
     requires fits { FitsNode (so_far_of joined) }
@@ -33,7 +33,7 @@ fn document_trace(alloc: Global, t: &Tree, path: &Path, joined: Joined) -> Resul
     })
 }
 
-/// What the `document` at this origin comes to, where its children came to this, or one was over.
+/// What the `document` at this origin evaluates to, where its children evaluated to this, or one ran out.
 pub(crate) fn document_of(
     alloc: Global,
     t: &Tree,

@@ -21,8 +21,8 @@ use tx_base::{Memory, Steps};
 use tx_exec::Trace;
 use tx_tree::{Text, Tree};
 
-/// A tree of a layer that is done: the name that is set to its value, what it came to, and what the name is set to,
-/// where the tree was held.
+/// A tree of a layer that is done: the name that is set to its value, its trace, and what the name is set to, where the
+/// tree was held.
 #[derive(Drop)]
 pub(crate) struct TreeSetting {
     name: Text,
@@ -85,7 +85,7 @@ impl TreeSetting {
         })
     }
 
-    /// What the tree came to.
+    /// The tree's trace.
     pub(crate) fn trace(&self) -> &Trace
         ensures is { wide_trace result.now ≡ self.now.done.trace }
         ensures once { AreOnce result.now }
@@ -101,7 +101,7 @@ impl TreeSetting {
         self.trace.value.size()
     }
 
-    // What the name is set to. Where the tree wasn't held a step is taken for each node, and spent.
+    // What the name is set to. Where the tree wasn't held, a step is taken for each node, and spent.
     fn to_set<L: Ledger>(
         &self,
         alloc: Global,
@@ -121,7 +121,7 @@ impl TreeSetting {
         Ok(tree)
     }
 
-    // Keeps what the tree came to, once.
+    // Adds the tree's trace to these, once.
     fn keep(&self, alloc: Global, set: &Tree, layers: &mut Vec<LayerTrace>) -> Result<(), Memory>
         requires { set.now ≡ plain self.now.done.trace.value }
         ensures more { OnOk result (HoldsMore (holds_in layers.old.items) (holds_in layers.new.items)) }
@@ -135,7 +135,7 @@ impl TreeSetting {
         Ok(())
     }
 
-    // The name with what it is set to. What the tree came to is kept.
+    // The name with what it is set to. The tree's trace is added to those of the walk.
     fn pair_to_set<L: Ledger>(
         &self,
         alloc: Global,
@@ -155,7 +155,7 @@ impl TreeSetting {
     }
 }
 
-/// The names with the trees of their values. For those that weren't held a step is taken for each node, and spent.
+/// The names with the trees of their values. For those that weren't held, a step is taken for each node, and spent.
 pub(crate) fn pairs_to_set<L: Ledger>(
     alloc: Global,
     settings: &[TreeSetting],

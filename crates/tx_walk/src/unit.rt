@@ -31,20 +31,20 @@ use tx_env::Env;
 use tx_exec::Outcome;
 use tx_tree::{Path, Tree};
 
-/// What a unit comes to, and its parts.
+/// What a unit evaluates to, and its parts.
 #[derive(Drop)]
 pub struct Walked {
-    /// Its trace, or that it is over.
+    /// Its trace, or `Over` where it ran out of steps or levels.
     pub outcome: Outcome,
-    /// How many steps it took: the costs of the parts that weren't held, and of layers' trees that weren't.
+    /// How many steps it took: the costs of the parts that weren't held, and of layers without their held trees.
     pub charge: u64,
-    /// Its parts in order, and none where it is over.
+    /// Its parts in order, and none where it ran out.
     pub parts: Vec<Part>,
-    /// What the trees of its layers came to, each once, and none where it is over.
+    /// The traces of its layers' trees, each once, and none where it ran out.
     pub layers: Vec<LayerTrace>,
 }
 
-// What the tree comes to, with all levels and at the root's origin. Its parts come behind the others.
+// What the tree evaluates to, with all levels and at the root's origin. Its parts are put after the others.
 fn walk_root<O: Opener, L: Ledger>(
     alloc: Global,
     t: &Tree,
@@ -83,7 +83,7 @@ fn walk_root<O: Opener, L: Ledger>(
     )
 }
 
-// What was walked. A unit that is over has no parts.
+// The result of a walk. A unit that ran out has no parts.
 fn unit_of(
     alloc: Global,
     outcome: Outcome,
@@ -117,18 +117,20 @@ fn unit_of(
     }
 }
 
-/// What the tree of a unit comes to without a frame: just what evaluating it gives, where this many steps are allowed,
-/// at most 1,000,000, and 400 levels. The origins of its value begin at the tree, and so do the paths of its parts.
+/// What the tree of a unit evaluates to without a frame. It is what evaluating the whole tree gives, where this many
+/// steps are allowed, at most 1,000,000, and 400 levels. The origins of its value begin at the tree, and the paths of
+/// its parts begin there too.
 ///
-/// It is gone into each `document` with a child, each `with` of names, texts and a last child, and each tag for which
-/// the opener tells a shell, down to trees of other kinds, which are the parts. A part is held where what is kept at
-/// its path fits what names have before it, or what the spare has there does: then its trace is the part's, and costs
-/// nothing. A part that the spare alone holds is told as renewed. So a layer's tree is held where what is kept of
-/// layers, or is spare, has its trace, and this fits what names have before the tree. The other parts are evaluated,
-/// and so are the other trees of layers, and the steps rise by their costs, which the answer tells, and by one for each
-/// node of what names are set to by the latter. A part that is over costs all the steps that it has, and so does a
-/// layer's tree. Another walk for which the answer's layers are kept evaluates no layer's tree. The environment is as
-/// before after every answer.
+/// The walk goes into each `document` with a child, each `with` of names, texts and a last child, and each tag for
+/// which the opener gives a shell. The trees of other kinds at the ends of these ways are the parts. A part is held
+/// where the cached trace at its path, or the spare's, fits what names have before the part. This trace is the part's
+/// then, and costs nothing. A part that the cache doesn't hold is marked as renewed. A layer's tree is held where the
+/// cache of layers, or its spare, has a trace of the tree that fits what names have before it.
+///
+/// The other parts and the other trees of layers are evaluated. The steps rise by their costs, and by one for each node
+/// of what names are set to by these trees. This sum is the charge of the result. A part that runs out costs all the
+/// steps that it has, and so does a layer's tree. Where the whole doesn't run out, another walk after the same names,
+/// with the result's layers as its cache, evaluates no layer's tree. The environment is unchanged in every case.
 pub fn walk_with<O: Opener, L: Ledger>(
     alloc: Global,
     t: &Tree,
@@ -188,7 +190,7 @@ pub fn walk_with<O: Opener, L: Ledger>(
     Ok(unit_of(alloc, outcome?, spent, done, layers))
 }
 
-/// The same where nothing has a shell.
+/// [`walk_with`], where nothing has a shell.
 pub fn walk<L: Ledger>(
     alloc: Global,
     t: &Tree,

@@ -40,7 +40,7 @@ use tx_env::Env;
 use tx_exec::Outcome;
 use tx_tree::{Path, Text, Tree};
 
-/// What a tree comes to.
+/// What a tree evaluates to.
 #[cycle(walk)]
 pub(crate) fn walk_tree<O: Opener, L: Ledger>(
     alloc: Global,
@@ -90,7 +90,7 @@ pub(crate) fn walk_tree<O: Opener, L: Ledger>(
     }
 }
 
-// What a tree comes to that has no shell.
+// What a tree that has no shell evaluates to.
 #[cycle(walk)]
 fn unshelled<O: Opener, L: Ledger>(
     alloc: Global,
@@ -143,7 +143,7 @@ fn unshelled<O: Opener, L: Ledger>(
     }
 }
 
-// What a `document` comes to.
+// What a `document` evaluates to.
 #[cycle(walk)]
 fn document<O: Opener, L: Ledger>(
     alloc: Global,
@@ -206,7 +206,7 @@ fn document<O: Opener, L: Ledger>(
     document_of(alloc, t, path, joined, went)
 }
 
-// What the children come to, one behind the other. The answer is false where one is over.
+// What the children evaluate to, in order. Returns false where one runs out.
 #[cycle(walk)]
 fn children<O: Opener, L: Ledger>(
     alloc: Global,
@@ -251,7 +251,7 @@ fn children<O: Opener, L: Ledger>(
     Ok(true)
 }
 
-// What one child more comes to.
+// What one child more evaluates to. Returns false where it runs out.
 #[cycle(walk)]
 fn one_child<O: Opener, L: Ledger>(
     alloc: Global,
@@ -292,7 +292,7 @@ fn one_child<O: Opener, L: Ledger>(
     joined.add_outcome(outcome)
 }
 
-// What a `with` comes to.
+// What a `with` evaluates to.
 #[cycle(walk)]
 fn scope<O: Opener, L: Ledger>(
     alloc: Global,
@@ -341,7 +341,7 @@ fn scope<O: Opener, L: Ledger>(
     }
 }
 
-// What a `with` of these names and texts comes to.
+// What a `with` of these names and texts evaluates to.
 #[cycle(walk)]
 fn scope_with<O: Opener, L: Ledger>(
     alloc: Global,
@@ -410,7 +410,7 @@ fn scope_with<O: Opener, L: Ledger>(
     with_of(alloc, t, path, env, settings, outcome)
 }
 
-// What the child of this number comes to where these are set. Afterwards they aren't.
+// What the child of this number evaluates to where these pairs are set. The environment is unchanged afterwards.
 #[cycle(walk)]
 fn inside<O: Opener, L: Ledger>(
     alloc: Global,
@@ -457,7 +457,7 @@ fn inside<O: Opener, L: Ledger>(
     outcome
 }
 
-// Sets these, and answers what the child of this number comes to.
+// Sets these pairs, and returns what the child of this number evaluates to.
 #[cycle(walk)]
 fn set_inside<O: Opener, L: Ledger>(
     alloc: Global,

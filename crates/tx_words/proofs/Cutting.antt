@@ -128,14 +128,14 @@ pub not_opened : (word : List ℕ) (styles : List (List ℕ)) (source : Source) 
 not_opened word styles (Files files) e closed h = closed (subst MayOpen h.1 h.2)
 not_opened word styles (Generated number count) e closed h = no_generator word number count e h.0
 
--- styles behind a generated document
+-- styles after a generated document
 pub no_styles : (word rest : List ℕ) (styles : List (List ℕ)) (source : Source) → word ≡ gen ++ rest → styles ≢ []
     → IsSource (Some word) styles source → ⊥
 no_styles word rest styles (Files files) e some h =
     let other = subst (λ w. is_generator w ≡ false) e h.0 in absurd cc
 no_styles word rest styles (Generated number count) e some h = some h.1
 
--- no numbers behind `gen:`
+-- no numbers after `gen:`
 pub no_numbers : (word rest : List ℕ) (styles : List (List ℕ)) (source : Source) → word ≡ gen ++ rest
     → ((number count : ℕ) → Generates (gen ++ rest) number count → ⊥) → IsSource (Some word) styles source → ⊥
 no_numbers word rest styles (Files files) e none h =

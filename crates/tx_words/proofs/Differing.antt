@@ -17,7 +17,7 @@ first_holds x h = (λ y. h.0 (x, y), λ a. (h.1 a).1)
 first_fails : {X Y A : Type 0} → (X → ⊥) → ((X × Y) ↔ A) → A → ⊥
 first_fails fails h a = fails (h.1 a).0
 
--- the file at a place, and those behind it
+-- the file at a place, and those after it
 one_more : (P : List Named → Type 0) (A : Type 0) (files : List FileWord) (i : ℕ) (d : FileWord) → i < length files
     → (P (map named_of (drop i files)) ↔ A)
     → (P (named_of (get_or files i d) ∷ map named_of (drop (i + 1) files)) ↔ A)
@@ -46,11 +46,11 @@ free_at name A files i d lt e h = first_holds differs (one_more (IsFree name) A 
         let there = (bytes_eq-Decides (get_or files i d).name.now name).1 same in
         cc
 
--- what a slice has behind a place
+-- what a slice has from a place on
 behind : (files : List FileWord) (k : ℕ) → take (length files - k) (drop k files) ≡ drop k files
 behind files k = take_all (length files - k) (drop k files) (omega (arith, length-drop k files))
 
--- the name of the file at the place stands behind it too
+-- the name of the file at the place also comes after it
 pub shared_at : (A : Type 0) (files : List FileWord) (i : ℕ) (d : FileWord) → i < length files
     → (IsFree (get_or files i d).name.now (map named_of (take (length files - (i + 1)) (drop (i + 1) files))) → ⊥)
     → (AreNamedApart (map named_of (drop i files)) ↔ A) → A → ⊥

@@ -56,7 +56,7 @@ passes_plain word h e =
     ∙ ap (λ (o : Option (Text × Option Text)). flag_word_passes rules false o word h) f.1
     ∙ ap (λ (o : Option Text). option_map_or (λ flags. bundle_passes rules false flags h) o true) f.2
 
--- ---- where the walk stands
+-- ---- the states of the walk
 
 abbrev row : Text → List Text → Row
 row id values =
@@ -70,7 +70,7 @@ style_rows (d ∷ ds) = row (codes "STYLE") (d ∷ ds) ∷ []
 abbrev holds : List Row → Text → List Text → Held
 holds rows id values = record { rows = rows; pending = Some (id, values); skip = 0 }
 
--- behind the file
+-- after the file
 abbrev first : Text → Walk
 first file = record {
   held = holds [] (codes "FILE") (file ∷ []);
@@ -80,7 +80,7 @@ first file = record {
   stopped = None;
 }
 
--- behind the file and some styles, of which the last is pending
+-- after the file and some styles, of which the last is pending
 abbrev many : Text → List Text → Text → Walk
 many file before last = record {
   held = holds (row (codes "FILE") (file ∷ []) ∷ style_rows before) (codes "STYLE") (last ∷ []);
@@ -229,7 +229,7 @@ rows_ask file styles source h = record {
   each = rows_source file styles source h;
 }
 
--- words that don't begin with a hyphen, behind the program's name, are the document's and those of styles
+-- words that don't begin with a hyphen, after the program's name, are the document's and those of styles
 source_ask : (program file : Text) (styles : List Text) (source : Source)
     → list_all is_plain_word (file ∷ styles) ≡ true → IsSource (Some file) styles source
     → Ask (program ∷ file ∷ styles) 80 24 source

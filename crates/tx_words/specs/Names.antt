@@ -7,7 +7,7 @@ abbrev pub without_extension : List ℕ → List ℕ → List ℕ
 without_extension base [] = base
 without_extension base (b ∷ stem) = b ∷ stem
 
--- the part of a path behind its last slash
+-- the part of a path after its last slash
 abbrev pub base_name : List ℕ → List ℕ
 base_name path = after_last (λ b. b == 47) path
 

@@ -74,8 +74,8 @@ pub record Generates (word : List ℕ) (number count : ℕ) : Type 0 where
 
 -- ---- all words
 
--- The word of the document and those of the styles behind it ask for this: files that may be opened, or a generated
--- document, behind which no style may follow.
+-- The word of the document and those of the styles after it ask for this: files that may be opened, or a generated
+-- document, which no style may follow.
 abbrev pub IsSource : Option (List ℕ) → List (List ℕ) → Source → Type 0
 IsSource None behind source = ⊥
 IsSource (Some word) behind (Files files) =

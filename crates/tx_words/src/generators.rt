@@ -4,7 +4,7 @@ ghost use Rattle.tx_words.specs.Words.{Generates, IsNumberIn, is_generator};
 
 use crate::sizes::number_in;
 
-/// What stands behind `gen:`, where the word begins so.
+/// The rest of a word that begins with `gen:`.
 pub(crate) fn behind_gen<'a>(word: &'a str) -> Option<&'a str>
     ensures { MatchOption result (is_generator word.entry.now ≡ false)
         (λ rest. word.entry.now ≡ codes "gen:" ++ rest.now) }
@@ -12,7 +12,7 @@ pub(crate) fn behind_gen<'a>(word: &'a str) -> Option<&'a str>
     word.strip_prefix("gen:")
 }
 
-// What stands before and behind the first colon.
+// The parts before and after the first colon.
 fn parts<'a>(rest: &'a str) -> Option<(&'a str, &'a str)>
     ensures some { IfSome result (λ both. (number count : ℕ) → (Generates (codes "gen:" ++ rest.entry.now) number count
         ↔ (IsNumberIn 0 2147483647 both.0.now number × IsNumberIn 1 60000 both.1.now count))) }
@@ -22,7 +22,7 @@ fn parts<'a>(rest: &'a str) -> Option<(&'a str, &'a str)>
     rest.split_once(':')
 }
 
-/// The number and the count of paragraphs that stand behind `gen:`.
+/// The number and the count of paragraphs after `gen:`.
 pub(crate) fn numbers(rest: &str) -> Option<(u32, u32)>
     ensures some { IfSome result (λ both. Generates (codes "gen:" ++ rest.now) both.0 both.1) }
     ensures none { result ≡ None → (number count : ℕ) → Generates (codes "gen:" ++ rest.now) number count → ⊥ }

@@ -12,8 +12,8 @@ pub fn one_asking()
         → Ask words w h other → (width ≡ w) × (height ≡ h) × (source ≡ other) }
 {}
 
-/// A law: words that don't begin with a hyphen are files, behind the program's name and where they may be opened, and
-/// pages are 80 by 24. The first of them begins with no `gen:`; where it does, and stands alone, it asks for the
+/// A law: words that don't begin with a hyphen are files, after the program's name and where they may be opened, and
+/// pages are 80 by 24. The first of them begins with no `gen:`. Where it does, and is the only one, it asks for the
 /// document that is generated from its numbers.
 pub fn plain_words()
     ensures files { (program file : List ℕ) (styles : List (List ℕ)) → list_all is_plain_word (file ∷ styles) ≡ true

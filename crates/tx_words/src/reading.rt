@@ -30,7 +30,7 @@ fn file_word<'a>(word: &'a str) -> FileWord<'a>
     }
 }
 
-// Puts the words behind the files.
+// Puts the words after the files.
 fn push_all<'a>(files: &mut Vec<FileWord<'a>>, words: &[&'a str]) -> Result<(), Memory>
     ensures { OnOk result
         (map named_of files.new.items ≡ map named_of files.old.items ++ map named_file (map (λ w. w.now) words.now)) }
@@ -91,7 +91,7 @@ fn value<'a>(matches: &ArgMatches<'a>, id: &str) -> Option<&'a str>
     matches.get_str(id)
 }
 
-// Puts the values of an argument behind the files.
+// Puts the values of an argument after the files.
 fn push_values<'a>(
     files: &mut Vec<FileWord<'a>>,
     matches: &ArgMatches<'a>,
@@ -151,7 +151,7 @@ pub(crate) fn has_styles(matches: &ArgMatches) -> bool
     }
 }
 
-// What the document's word and the styles behind it ask for.
+// What the document's word and the styles after it ask for.
 fn source_of<'a>(
     alloc: Global,
     document: &'a str,

@@ -16,7 +16,7 @@ use std::alloc::Global;
 use std::str;
 use tx_base::Memory;
 
-// What a request for help is told.
+// The text for a request for help.
 const HELP: &str = "tmx [--width N] [--height N] FILE [STYLE]... reads commands, a line each:
 assign PATH TREE, insert PATH N TREE, remove PATH I N, split PATH I J, join PATH I,
 assign-node PATH LABEL, insert-node PATH I TREE, remove-node PATH I,
@@ -120,7 +120,7 @@ fn explained(alloc: Global, words: &[String]) -> Result<String, Memory> {
 }
 
 /// Why the words ask for nothing, as a text for people without a line's end, or None where they ask for something. What
-/// `clap` refuses is said in its words. Words that ask for help are told the commands of a script.
+/// `clap` refuses is said in its words. For words that ask for help the text is the commands of a script.
 pub fn faulty_because(alloc: Global, words: &[String]) -> Result<Option<String>, Memory>
     ensures none { IfOk result (λ reason. reason ≡ None → AreFaulty (map string_bytes words.now) → ⊥) }
 {

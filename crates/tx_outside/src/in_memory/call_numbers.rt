@@ -32,7 +32,7 @@ impl Calls {
         }
     }
 
-    /// Takes the number of a call, and answers whether that call is to fail.
+    /// Takes the number of a call, and returns whether that call is to fail.
     pub fn take_number(&mut self) -> bool
         ensures listed { IsTrue result ↔ NextFails self.old }
         ensures numbered { self.new ≡ one_more self.old }

@@ -1,11 +1,11 @@
-// Files in a list: where one stands, and what the list is with one more or one replaced.
+// Files in a list: the place of one, and the list with one more or one replaced.
 ghost use Rattle.std.specs.Prelude.{◌≡◌, OnOk, OnErr, MatchOption, IsOkUnless, option_copied};
 ghost use Rattle.tx_outside.specs.Files.{IsAbsent, NamesDiffer, StandsAt, WithFile, file_of};
 
 use super::stored_file::StoredFile;
 use crate::SaveFault;
 
-// Where the first file of that name stands, if there is one.
+// The place of the first file of that name, if there is one.
 fn place_of(files: &[StoredFile], name: &[u8]) -> Option<usize>
     ensures { MatchOption result (IsAbsent name.now files.now) (StandsAt name.now files.now) }
 {

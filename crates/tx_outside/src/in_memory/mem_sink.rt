@@ -11,8 +11,8 @@ use std::alloc::Global;
 use std::marker::Model;
 use tx_base::Memory;
 
-/// A sink into memory, with room for so many bytes and no more. Its calls are numbered from 0, and those
-/// whose numbers it is given fail, as do all once the room is full. The number stands from 2^64 - 1 on.
+/// A sink into memory, with room for so many bytes and no more. Its calls are numbered from 0, and those whose numbers
+/// it is given fail, as do all once the room is full. The number stops at 2^64 - 1.
 #[derive(Drop)]
 pub struct MemSink {
     bytes: Vec<u8>,

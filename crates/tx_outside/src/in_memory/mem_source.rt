@@ -9,8 +9,8 @@ use super::call_numbers::Calls;
 use crate::{Failed, Source};
 use std::marker::Model;
 
-/// A source over bytes in memory. Its calls are numbered from 0, and those whose numbers it is given
-/// fail. The number stands from 2^64 - 1 on.
+/// A source over bytes in memory. Its calls are numbered from 0, and those whose numbers it is given fail. The number
+/// stops at 2^64 - 1.
 #[derive(Drop)]
 pub struct MemSource {
     bytes: Vec<u8>,

@@ -3,7 +3,7 @@ ghost use Rattle.std.specs.Prelude.{◌≡◌, ◌↔◌, ◌≤◌, [], Some};
 ghost use Rattle.std.specs.Prelude.{length, OnOk, OnErr, IsErrOf, option_copied};
 ghost use Rattle.tx_outside.specs.Counts.{Rose, raised};
 ghost use Rattle.tx_outside.specs.Files.{IsAbsent, IsTooLong, NamesDiffer, WithFile, file_of};
-ghost use Rattle.tx_outside.specs.InMemory.{NextFails, no_calls, one_more, one_failed, seen_store};
+ghost use Rattle.tx_outside.specs.InMemory.{LoadLeaves, NextFails, no_calls, one_more, one_failed, seen_store};
 ghost use Rattle.tx_outside.specs.Outside.{StoreGoesOn};
 
 use super::call_numbers::Calls;
@@ -12,8 +12,8 @@ use super::stored_file::StoredFile;
 use crate::{LoadFault, MOST_FILE, SaveFault, Store};
 use std::marker::Model;
 
-/// A store of files in memory. Its calls, loads and saves alike, are numbered from 0, and those whose
-/// numbers it is given fail. The number stands from 2^64 - 1 on.
+/// A store of files in memory. Its calls, loads and saves alike, are numbered from 0, and those whose numbers it is
+/// given fail. The number stops at 2^64 - 1.
 #[derive(Drop)]
 pub struct MemStore {
     files: Vec<StoredFile>,
@@ -47,7 +47,7 @@ impl MemStore {
         }
     }
 
-    /// The bytes that are kept under a name. `None` comes exactly where there is no such file.
+    /// The bytes that are stored under a name. `None` comes exactly where there is no such file.
     pub fn file(&self, name: &[u8]) -> Option<&[u8]>
         ensures file { option_copied result ≡ file_of self.now.files name.now }
         ensures names_differ { NamesDiffer self.now.files }
@@ -59,11 +59,13 @@ impl MemStore {
 impl Store for MemStore {
     ghost seen = { seen_store };
 
-    /// Every call takes a number, whatever it answers.
+    ghost load_leaves = { LoadLeaves };
+
+    /// Every call takes a number, whatever it returns.
     fn load(&mut self, name: &[u8], out: &mut Vec<u8>) -> Result<(), LoadFault>
         requires { out.old.items ≡ [] }
 
-        // Which fault comes: a failure by the call's number alone, else one by what is kept.
+        // Which fault comes: a failure by the call's number alone, else one by the stored files.
         ensures failed { IsErrOf result LoadFault.Failed ↔ NextFails self.old.calls }
         ensures missing { IsErrOf result LoadFault.Missing
             ↔ (¬ NextFails self.old.calls × IsAbsent name.now self.old.files) }
@@ -85,6 +87,7 @@ impl Store for MemStore {
             → self.new ≡ record self.old { calls = one_more self.old.calls; longs = raised self.old.longs } }
         ensures memory_store { IsErrOf result LoadFault.Memory
             → self.new ≡ record self.old { calls = one_more self.old.calls } }
+        ensures leaves { LoadLeaves name.now result self.old self.new }
 
         // The trait's clauses on the counts and the names.
         ensures missing_rose { IsErrOf result LoadFault.Missing → Rose self.old.misses self.new.misses }
@@ -110,7 +113,7 @@ impl Store for MemStore {
         Ok(())
     }
 
-    /// Every call takes a number, whatever it answers. A call that fails changes no file.
+    /// Every call takes a number, whatever it returns. A call that fails changes no file.
     fn save(&mut self, name: &[u8], bytes: &[u8]) -> Result<(), SaveFault>
         ensures failed { IsErrOf result SaveFault.Failed ↔ NextFails self.old.calls }
         ensures saved { OnOk result (WithFile name.now bytes.now self.old.files self.new.files) }

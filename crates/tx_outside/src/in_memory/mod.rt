@@ -1,5 +1,5 @@
-// A source, a sink and a store that are kept in memory. They tell all that they hold, and fail at the
-// calls that they are told to.
+// A source, a sink and a store in memory. They report all their contents, and fail at the calls whose numbers they are
+// given.
 mod call_numbers;
 mod file_list;
 mod mem_sink;

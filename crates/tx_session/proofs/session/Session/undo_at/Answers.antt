@@ -1,6 +1,9 @@
-use Rattle.std.proofs.Common.{◌≡◌, ◌≤◌, ◌+◌, ◌*◌, take, Ok, refl, ap, sym, subst, ◌∙◌, arith}
+use Rattle.std.proofs.Common.{◌≡◌, ◌≤◌, ◌+◌, ◌*◌, take, Some, Ok, refl, ap, sym, subst, ◌∙◌, arith}
 use Rattle.tx_cmd.specs.declared.command.Command.TheVariants.{UndoAt}
-use Rattle.tx_state.specs.Leaving.{leaving, mods_among}
+use Rattle.tx_state.specs.Leaving.{leaving, tree_without, mods_among}
+use Rattle.tx_state.specs.Edits.{edited}
+use Rattle.tx_state.specs.States.{State}
+use Rattle.tx_doc.specs.Buffers.{tree_of}
 use Rattle.tx_session.specs.Saying.{reply_mark, reply_text}
 use Rattle.tx_session.proofs.Answered.{leave_replied, leave_changed, not_left_changed}
 use Rattle.tx_session.proofs.Carried.{leave_keeps, not_left_keeps, leave_counted}
@@ -13,10 +16,15 @@ returns-in-Ok-clause-replied g c =
     let now = c.args.self.now in
     let is : leaving n now.seen.state ≡ Ok c.in-Ok.edit =
     ap (λ w. leaving n w.seen.state) (sym c.self.view_is) ∙ c.in-Ok.ensures.edit in
+    let left : (next : State) → edited c.in-Ok.edit now.seen.state ≡ Ok next
+    → tree_without n now.seen.state ≡ Some (tree_of next.buffers c.in-Ok.edit.buffer) =
+    subst (λ w. (next : State) → edited c.in-Ok.edit w.seen.state ≡ Ok next
+    → tree_without n w.seen.state ≡ Some (tree_of next.buffers c.in-Ok.edit.buffer)) c.self.view_is
+    c.in-Ok.ensures.without in
     λ store.
     leave_replied n now.seen c.edit.new.self.seen store (reply_mark c.edit.result) (reply_text c.edit.result)
-    (leave_changed (leaving n now.seen.state) c.in-Ok.edit now.seen c.edit.new.self.seen (reply_mark c.edit.result)
-    (reply_text c.edit.result) is c.in-Ok.ensures.sound c.edit.ensures.changed)
+    (leave_changed n (leaving n now.seen.state) c.in-Ok.edit now.seen c.edit.new.self.seen (reply_mark c.edit.result)
+    (reply_text c.edit.result) is c.in-Ok.ensures.sound left c.edit.ensures.changed)
 
 pub returns-in-Ok-clause-keeps : goal.returns-in-Ok-clause-keeps
 returns-in-Ok-clause-keeps g c =
@@ -45,7 +53,7 @@ returns-in-Err-clause-replied g c =
     let now = c.args.self.now in
     λ store.
     leave_replied n now.seen now.seen store (reply_mark c.not_left.result) (reply_text c.not_left.result)
-    (not_left_changed c.in-Err.fault (leaving n now.seen.state) now.seen c.not_left.result
+    (not_left_changed n c.in-Err.fault (leaving n now.seen.state) now.seen c.not_left.result
     (c.not_left.ensures.named, c.not_left.ensures.wanting)
     (λ named. ap (λ w. leaving n w.seen.state) (sym c.self.view_is) ∙ c.in-Err.ensures.refused named))
 

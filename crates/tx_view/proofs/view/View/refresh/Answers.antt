@@ -25,7 +25,7 @@ use Rattle.tx_view.proofs.LaidCarried.{laid_fresh}
 use Rattle.tx_view.proofs.Standing.{AreAllOrNone, stale, left_none, none_aside, standing, stores_with, bound_stale}
 use Rattle.tx_view.proofs.view.View.refresh.Goals as goal
 
--- behind want of memory
+-- when out of memory
 pub invariant_of-self : goal.invariant_of-self
 invariant_of-self g c =
     let many : length c.made_anew.new.all ≡ c.self.inside.hidden.len = search rules in
