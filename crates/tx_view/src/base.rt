@@ -1,5 +1,6 @@
 // The units of the base style. They are made once, when a view begins, and shared from then on.
-ghost use Rattle.std.specs.Prelude.{◌≡◌, ◌+◌, ◌≤◌, ◌<◌, ◌^◌, take, length, IfOk};
+ghost use Rattle.std.specs.Prelude.{◌≡◌, ◌+◌, ◌≤◌, ◌<◌, ◌^◌, List, take, length, IfOk};
+ghost use Rattle.tx_doc.specs.declared.buffer.Buffer.{Buffer as Named};
 ghost use Rattle.tx_bridge.specs.Entries.{units_of};
 ghost use Rattle.tx_units.specs.Units.{base_units, units, made};
 
@@ -23,7 +24,15 @@ fn shared_base(alloc: Global, bridges: &Bridges) -> Result<Vec<Unit>, Memory>
     Ok(base)
 }
 
-/// The units of the buffers, where the cache begins with those of the base style, which are shared with it.
+// A law: the cache begins with the units of the base style.
+fn base_kept(bridges: &Bridges)
+    requires { (bs : List Named) × (units_of bridges.now.kept ≡ units bs) }
+    ensures { take BASE_UNITS (units_of bridges.now.kept) ≡ base_units }
+{
+    base_law();
+}
+
+/// The units of the buffers. Those of the base style are shared with the cache, which is of the units of some buffers.
 pub(crate) fn units_anew<L: Ledger>(
     alloc: Global,
     bridges: &Bridges,
@@ -32,11 +41,12 @@ pub(crate) fn units_anew<L: Ledger>(
 ) -> Result<Vec<Unit>, Memory>
     requires some { 1 ≤ length buffers.now }
     requires few { length buffers.now ≤ 64 }
-    requires base { take BASE_UNITS (units_of bridges.now.kept) ≡ base_units }
+    requires of_buffers { (bs : List Named) × (units_of bridges.now.kept ≡ units bs) }
     ensures units { IfOk result (λ us. us.items ≡ units buffers.now) }
     ensures counted { steps.new ≤ steps.old + made buffers.now }
 {
     base_law();
+    base_kept(bridges);
     let base = shared_base(alloc, bridges)?;
     units_over(alloc, base, buffers, steps)
 }

@@ -1,11 +1,12 @@
 // What is shown of units, and of strays, which are parts that are in no unit, is carried through an edit.
-ghost use Rattle.std.specs.Prelude.{◌≡◌, ℕ, [], ◌+◌, ◌≤◌, ◌<◌, ◌^◌, length, slice_get, take, if◌then◌else◌, IfOk};
+ghost use Rattle.std.specs.Prelude.{◌≡◌, ℕ, [], ◌+◌, ◌≤◌, ◌<◌, ◌^◌, List, length, slice_get, if◌then◌else◌, IfOk};
 ghost use Rattle.std.specs.Prelude.{OnOk, OnErr, Some, None, IfSome, IsTrue, MatchOption, true, false, All, option_map};
 ghost use Rattle.tx_tree.specs.WideTree.{WideTree};
 ghost use Rattle.tx_mod.specs.Followed.{changed_by_all};
 ghost use Rattle.tx_mod.specs.InTurn.{cost_of};
 ghost use Rattle.tx_doc.specs.Buffers.{document_of, tree_of, with_tree};
-ghost use Rattle.tx_units.specs.Units.{base_units, units, made};
+ghost use Rattle.tx_doc.specs.declared.buffer.Buffer.{Buffer as Named};
+ghost use Rattle.tx_units.specs.Units.{units, made};
 ghost use Rattle.tx_bridge.specs.Entries.{Entry, units_of};
 ghost use Rattle.tx_bridge.specs.InPlace.{IsOneChanged};
 ghost use Rattle.tx_bridge.specs.MovedParts.{moves_of};
@@ -35,7 +36,7 @@ use tx_mod::Mod;
 use tx_part_layout::LineList;
 use tx_tree::{Path, Tree};
 use tx_unit_layout::{LaidParts, Shown};
-use tx_units::{BASE_UNITS, Unit, base_law, inside_law, leaves_others, unit_count_law};
+use tx_units::{Unit, inside_law, leaves_others, unit_count_law};
 use tx_walk::Part;
 
 // The buffers with this tree in place of that of one of them.
@@ -323,7 +324,7 @@ fn carried_anew<L: Ledger>(
     requires some { 1 ≤ length after.now }
     requires few { length after.now ≤ 64 }
     requires applies { (u : WideTree) × (changed_by_all mods.now before.now ≡ Some u) }
-    requires base { take BASE_UNITS (units_of bridges.old.kept) ≡ base_units }
+    requires of_buffers { (bs : List Named) × (units_of bridges.old.kept ≡ units bs) }
     requires old { buffer ≡ 0 → AllStand before.now (units_of bridges.old.kept) }
     requires new { buffer ≡ 0 → (u : WideTree) → changed_by_all mods.now before.now ≡ Some u
         → AllStand u (units after.now) }
@@ -500,7 +501,6 @@ fn carried_kept<L: Ledger>(
 {
     unit_list_laws();
     inside_law();
-    base_law();
     unit_count_law(buffers);
     let before = &buffers[buffer as usize].tree;
     match exchanged(bridges, buffer, mods, tree)? {
