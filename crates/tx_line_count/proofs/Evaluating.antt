@@ -14,8 +14,8 @@ use Rattle.tx_origin.specs.Values.{WideValue, text, made, none, vals, value_text
 use Rattle.tx_origin.specs.TaggedTrees.{TaggedTree, kids_from, kids_of}
 use Rattle.tx_env.specs.Pairs.{Name}
 use Rattle.tx_env.specs.Environments.{NameMap}
-use Rattle.tx_exec_form.specs.Runs.{Before, State, Ran, Over, Done, Run, on_done, ◌>>=◌, give, pay, need, look, from_own}
-use Rattle.tx_exec_form.specs.Runs.{set}
+use Rattle.tx_exec_form.specs.Runs.{Before, State, Ran, Over, Done, Run, on_done, ◌>>=◌, give, pay, need, look}
+use Rattle.tx_exec_form.specs.Runs.{from_own, set}
 use Rattle.tx_exec_form.specs.Frames.{Frame, top, call, call_all, caller_of, Found, Unbound, Missing, Here, All}
 use Rattle.tx_exec_form.specs.Frames.{argument_in}
 use Rattle.tx_exec_form.specs.Numbers.{integers_of, part_of, part_among, from_number, to_number, numbers_between}
@@ -43,9 +43,9 @@ use Rattle.tx_view_form.proofs.Labelled.{IsLabelled}
 use Rattle.tx_line_count.proofs.Trees.{IfLabelled, children_labelled}
 use Rattle.tx_line_count.proofs.Names.{Named, AllNamed, none_named, set_named, pairs_named}
 use Rattle.tx_line_count.proofs.Primitives.{primitive_labelled}
-use Rattle.tx_line_count.proofs.Parts.{Has, AllHave, kids_have, IfHas, part_has, among_has, FrameHas, FoundHas, in_frame}
-use Rattle.tx_line_count.proofs.Parts.{caller_has, IfBody, macro_has, xmacro_has, ValueHas, ValuesHave, whole_has}
-use Rattle.tx_line_count.proofs.Parts.{push_have, two_have, plain_have, tuple_has, call_labelled}
+use Rattle.tx_line_count.proofs.Parts.{Has, AllHave, kids_have, IfHas, part_has, among_has, FrameHas, FoundHas}
+use Rattle.tx_line_count.proofs.Parts.{in_frame, caller_has, IfBody, macro_has, xmacro_has, ValueHas, ValuesHave}
+use Rattle.tx_line_count.proofs.Parts.{whole_has, push_have, two_have, plain_have, tuple_has, call_labelled}
 
 concat_label : IsLabel (codes "concat")
 unfolding is_label_byte
@@ -173,7 +173,8 @@ module _ (k : ℕ) where
 
   provides_ofs : (label : List ℕ) (v : WideValue) → Yields V (provides_of k label v)
   unfolding provides_of
-  provides_ofs label v = nameds label _ (value_text v) (λ n. bind IfLabelled V (looks n) (λ t h. takens (text (truth t) None) tt))
+  provides_ofs label v =
+      nameds label _ (value_text v) (λ n. bind IfLabelled V (looks n) (λ t h. takens (text (truth t) None) tt))
 
   quotes : (label : List ℕ) (kids : List TaggedTree) → AllHave kids → Yields V (quote k label kids)
   quotes label [] h = bads label

@@ -170,4 +170,5 @@ calls_labelled foo x (i ∷ numbers) h = ((h, ((arg_label, (tt, (tt, tt))), (tt,
 
 pub call_labelled : (foo root x : List ℕ) (numbers : List ℕ) → IsLabel foo → IsLabel root
     → IsLabelled (call_over foo root x numbers)
-call_labelled foo root x numbers h k = (k, forest_labelled (map (item_call foo x) numbers) (calls_labelled foo x numbers h))
+call_labelled foo root x numbers h k =
+    (k, forest_labelled (map (item_call foo x) numbers) (calls_labelled foo x numbers h))

@@ -21,9 +21,9 @@ use Rattle.tx_prim.specs.declared.table.Connective.TheVariants.{AllTrue, SomeTru
 use Rattle.tx_prim.specs.Items.{joined_lists, text_items}
 use Rattle.tx_prim.specs.Operands.{every, integer_in, amount_in, truth_in, tuple_in, part}
 use Rattle.tx_prim.specs.Arithmetic.{compared, sameness}
-use Rattle.tx_prim.specs.Table.{failure, told, tuple_node, joined_texts, merged, text_part, tuple_part, tree_part, ranged}
-use Rattle.tx_prim.specs.Table.{child_numbered, looked_up, label_told, primitive_value, on_all, calculated, connected}
-use Rattle.tx_prim.specs.Table.{length_row, tuple_row, arity_row}
+use Rattle.tx_prim.specs.Table.{failure, told, tuple_node, joined_texts, merged, text_part, tuple_part, tree_part}
+use Rattle.tx_prim.specs.Table.{ranged, child_numbered, looked_up, label_told, primitive_value, on_all, calculated}
+use Rattle.tx_prim.specs.Table.{connected, length_row, tuple_row, arity_row}
 use Rattle.tx_prim.proofs.Plain.{error_label, tuple_label}
 use Rattle.tx_view_form.proofs.Labelled.{IsLabelled}
 use Rattle.tx_line_count.proofs.Trees.{AllLabelled, IfLabelled, forest_labelled, trees_labelled, get_labelled}

@@ -44,3 +44,4 @@ pub mod Endings
 pub mod Lasting
 pub mod Partly
 pub mod RowParts
+mod FirstUnits

@@ -1,10 +1,11 @@
 // What is shown of units, and of strays, which are parts that are in no unit, is carried through an edit.
-ghost use Rattle.std.specs.Prelude.{◌≡◌, ℕ, [], ◌+◌, ◌≤◌, ◌<◌, ◌^◌, length, slice_get, if◌then◌else◌, IfOk, OnOk};
-ghost use Rattle.std.specs.Prelude.{OnErr, Some, None, IfSome, IsTrue, MatchOption, true, false, All, option_map};
+ghost use Rattle.std.specs.Prelude.{◌≡◌, ℕ, [], ◌+◌, ◌≤◌, ◌<◌, ◌^◌, List, length, slice_get, if◌then◌else◌, IfOk};
+ghost use Rattle.std.specs.Prelude.{OnOk, OnErr, Some, None, IfSome, IsTrue, MatchOption, true, false, All, option_map};
 ghost use Rattle.tx_tree.specs.WideTree.{WideTree};
 ghost use Rattle.tx_mod.specs.Followed.{changed_by_all};
 ghost use Rattle.tx_mod.specs.InTurn.{cost_of};
 ghost use Rattle.tx_doc.specs.Buffers.{document_of, tree_of, with_tree};
+ghost use Rattle.tx_doc.specs.declared.buffer.Buffer.{Buffer as Named};
 ghost use Rattle.tx_units.specs.Units.{units, made};
 ghost use Rattle.tx_bridge.specs.Entries.{Entry, units_of};
 ghost use Rattle.tx_bridge.specs.InPlace.{IsOneChanged};
@@ -23,6 +24,7 @@ ghost use Rattle.tx_view.specs.Laid.{left_with, StayBut, IsLeft, IsWay, IsTarget
 ghost use Rattle.tx_view.specs.Laid.{WasShown, IsFormer, AreLaid, LaidGoes};
 
 use crate::arriving::put_either;
+use crate::base::units_anew;
 use std::alloc::Global;
 use std::mem;
 use std::sync::ledger::Ledger;
@@ -34,7 +36,7 @@ use tx_mod::Mod;
 use tx_part_layout::LineList;
 use tx_tree::{Path, Tree};
 use tx_unit_layout::{LaidParts, Shown};
-use tx_units::{Unit, inside_law, leaves_others, unit_count_law, units};
+use tx_units::{Unit, inside_law, leaves_others, unit_count_law};
 use tx_walk::Part;
 
 // The buffers with this tree in place of that of one of them.
@@ -305,7 +307,7 @@ fn exchanged(
 }
 
 // Carries what is cached of the old units to those of the buffers after the edit. The new units have no lines but those
-// of parts of other old units, which are carried with these.
+// of parts of other old units, which are carried with these. The units of the base style are shared.
 fn carried_anew<L: Ledger>(
     alloc: Global,
     bridges: &mut Bridges,
@@ -322,6 +324,7 @@ fn carried_anew<L: Ledger>(
     requires some { 1 ≤ length after.now }
     requires few { length after.now ≤ 64 }
     requires applies { (u : WideTree) × (changed_by_all mods.now before.now ≡ Some u) }
+    requires of_buffers { (bs : List Named) × (units_of bridges.old.kept ≡ units bs) }
     requires old { buffer ≡ 0 → AllStand before.now (units_of bridges.old.kept) }
     requires new { buffer ≡ 0 → (u : WideTree) → changed_by_all mods.now before.now ≡ Some u
         → AllStand u (units after.now) }
@@ -357,7 +360,7 @@ fn carried_anew<L: Ledger>(
 {
     unit_list_laws();
     unit_count_law(after);
-    let made = units(alloc, after, steps)?;
+    let made = units_anew(alloc, bridges, after, steps)?;
     let mut new = blanks(alloc, &made)?;
     let mut new_strays = LaidParts::none(alloc);
     let course = bridges.course(alloc, buffer, before, mods, &made, steps)?;

@@ -6,6 +6,7 @@
 
 mod around;
 mod arriving;
+mod base;
 mod beside;
 mod carrying;
 mod cells;

@@ -54,6 +54,9 @@ carried_anew-requires-clause-applies g c = (
       ∙ c.requires.changed,
 )
 
+pub carried_anew-requires-clause-of_buffers : goal.carried_anew-requires-clause-of_buffers
+carried_anew-requires-clause-of_buffers g c = (c.args.buffers.now, c.requires.of_buffers)
+
 pub returns-in_ok-places-in-Some-clause-left : goal.returns-in_ok-places-in-Some-clause-left
 returns-in_ok-places-in-Some-clause-left g c =
     let xs : List Shown = if c.args.fresh then c.args.shown.now else c.args.hidden.now in
