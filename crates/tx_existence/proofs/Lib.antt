@@ -1,0 +1,4 @@
+pub mod Spanning
+pub mod Shaping
+pub mod Paging
+pub mod Viewing
