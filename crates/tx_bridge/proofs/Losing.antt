@@ -1,4 +1,4 @@
--- Places that modifications leave nowhere.
+-- Places that modifications carry nowhere.
 use Rattle.std.proofs.Common.{◌≡◌, ◌<◌, ◌+◌, ℕ, List, [], ◌∷◌, ◌++◌, map, take, drop, length, slice_index_or, slice_set}
 use Rattle.std.proofs.Common.{Option, None, sym, ap, ◌∙◌, arith}
 use Rattle.std.proofs.Math.Seq.{set-append_seam}

@@ -24,12 +24,12 @@ wraps (RemoveNode p i) = false
 abbrev pub begins_path : List ℕ → List ℕ → Bool
 begins_path front path = starts_with nat_eq path front
 
--- Whether a modification inside the subtree at the path leaves that subtree nowhere. One that puts this very subtree
+-- Whether a modification inside the subtree at the path carries that subtree nowhere. One that puts this very subtree
 -- into a node doesn't.
 abbrev pub leaves_nowhere : List ℕ → Mod → Bool
 leaves_nowhere path m = not (wraps m) || nat_lt (length path) (length (path_of m))
 
--- there is a first modification, and it does, if it is inside
+-- there is a first modification, and, if it is inside the subtree at the path, it carries that nowhere
 abbrev pub is_gone : List ℕ → List Mod → Bool
 is_gone path ms = option_map_or (leaves_nowhere path) (slice_get ms 0) false
 
@@ -37,12 +37,12 @@ is_gone path ms = option_map_or (leaves_nowhere path) (slice_get ms 0) false
 abbrev pub are_within : List ℕ → List Mod → Bool
 are_within path ms = list_all (λ m. begins_path path (path_of m)) ms
 
--- the unit has a path, all modifications are inside its tree, and there is a first one, which leaves it nowhere
+-- the unit has a path, all modifications are inside its tree, and there is a first one, which carries it nowhere
 abbrev pub is_changed : List Mod → DocUnit → Bool
 is_changed ms u = option_map_or (λ path. is_gone path ms && are_within path ms) u.path false
 
 -- The edit is one of the document, buffer 0. All modifications are inside the paragraph of number i, and there is a
--- first one, which leaves it nowhere.
+-- first one, which carries it nowhere.
 pub record IsOneChanged (i buffer : ℕ) (ms : List Mod) (us : List DocUnit) : Type 0 where
   pub document : buffer ≡ 0
   pub unit : DocUnit

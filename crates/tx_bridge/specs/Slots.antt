@@ -101,7 +101,7 @@ abbrev pub AreMoved : List (Option (List ℕ)) → List Bridge → Type 0
 AreMoved places bs = (i : ℕ) (q : Option (List ℕ)) (b : Bridge) → slice_get places i ≡ Some q
     → slice_get bs i ≡ Some b → b.unit.path ≡ None → q ≡ None
 
--- no unit is such that all modifications are inside its tree, which they leave nowhere
+-- no unit is such that all modifications are inside its tree, and carry it nowhere
 abbrev pub AllUnchanged : List Mod → List Bridge → Type 0
 AllUnchanged ms bs = (k : ℕ) (b : Bridge) → slice_get bs k ≡ Some b → is_changed ms b.unit ≡ false
 

@@ -39,7 +39,7 @@ use tx_tree::{Path, Tree};
 use tx_units::Unit;
 use tx_walk::Part;
 
-/// A part of an old unit that is none of the new ones, or a stray. It is somewhere in the tree afterwards.
+/// A part of an old unit that is none of the new ones, or a stray. It is somewhere in the document afterwards.
 #[derive(Drop)]
 pub struct PartMove {
     /// The number of the old unit. For a stray it is the number of old units.

@@ -53,14 +53,14 @@ fn begins(front: &Path, path: &Path) -> bool
     path.steps().starts_with(front.steps())
 }
 
-// Whether the modification, if it is inside the subtree at the path, leaves that subtree nowhere.
+// Whether the modification, if it is inside the subtree at the path, carries that subtree nowhere.
 fn leaves_nowhere(path: &Path, m: &Mod) -> bool
     ensures { result ≡ leaves_nowhere path.now m.now }
 {
     !wraps(m) || path.steps().len() < m.path().steps().len()
 }
 
-// Whether the first modification does.
+// Whether there is a first modification, and, if it is inside the subtree at the path, it carries that nowhere.
 pub(crate) fn is_gone(path: &Path, mods: &[Mod]) -> bool
     ensures { result ≡ is_gone path.now mods.now }
 {
@@ -77,7 +77,7 @@ pub(crate) fn are_within(path: &Path, mods: &[Mod]) -> bool
     mods.iter().all(|m| begins(path, m.path()))
 }
 
-// Whether all modifications are inside the unit's tree, and leave it nowhere.
+// Whether all modifications are inside the unit's tree, and carry it nowhere.
 fn is_changed(mods: &[Mod], unit: &Unit) -> bool
     ensures { result ≡ is_changed mods.now unit.now }
 {

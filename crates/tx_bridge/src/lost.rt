@@ -1,4 +1,4 @@
-// Places that modifications leave nowhere, as is seen from their paths.
+// Places that modifications carry nowhere, as is seen from their paths.
 ghost use Rattle.std.specs.Prelude.{◌≡◌, ◌≤◌, ◌+◌, map, IfOk, IsTrue, None, Some};
 ghost use Rattle.tx_tree.specs.WideTree.{WideTree};
 ghost use Rattle.tx_mod.specs.Followed.{changed_by_all};
@@ -13,7 +13,7 @@ use tx_base::{Memory, Steps};
 use tx_mod::Mod;
 use tx_tree::{Path, Tree};
 
-// Whether the place, if it is one, is lost: all modifications are inside it, and the first one leaves it nowhere. False
+// Whether the place is None, or is lost: all modifications are inside it, and the first one carries it nowhere. False
 // says nothing.
 fn is_lost(mods: &[Mod], place: &Option<Path>) -> bool
     ensures { IsTrue result → (t : WideTree) → through mods.now t place.now ≡ None }
@@ -24,7 +24,7 @@ fn is_lost(mods: &[Mod], place: &Option<Path>) -> bool
     }
 }
 
-// Whether all are. False says nothing.
+// Whether all places are None or lost. False says nothing.
 fn are_lost(mods: &[Mod], places: &[Option<Path>]) -> bool
     ensures { IsTrue result → (t : WideTree) → map (through mods.now t) places.now ≡ map (λ q. None) places.now }
 {
@@ -36,7 +36,7 @@ fn are_lost(mods: &[Mod], places: &[Option<Path>]) -> bool
     true
 }
 
-// None is a place any more.
+// Makes all places None.
 fn lose(places: &mut [Option<Path>])
     ensures { places.new ≡ map (λ q. None) places.old }
 {

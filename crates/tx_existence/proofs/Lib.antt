@@ -1,3 +1,5 @@
+pub mod Slices
+pub mod Narrow
 pub mod Spanning
 pub mod Shaping
 pub mod Paging

@@ -3,18 +3,14 @@ use Rattle.std.proofs.Common.{◌≡◌, ℕ, zero, suc, ◌+◌, ◌-◌, ◌<�
 use Rattle.std.proofs.Common.{refl, subst, arith}
 use Rattle.std.specs.Prelude.{slice_range, All}
 use Rattle.std.proofs.lemmas.Bool.{cases_lt, cases_Bool}
-use Rattle.std.proofs.lemmas.List.{get_or_default}
 use Rattle.tx_lines.specs.declared.cut.Cut.{Cut}
 use Rattle.tx_layout.specs.declared.layout.Line.{Line}
 use Rattle.tx_layout.specs.Shapes.{empty_line}
 use Rattle.tx_layout.specs.Paging.{EndsPage, Unmarked, IsPage, PagesFrom}
-use Rattle.tx_layout.proofs.Slices.{all_none, all_one, all_push}
+use Rattle.tx_existence.proofs.Slices.{all_none, all_more, all_one}
 
 abbrev line_at : List Line → ℕ → Line
 line_at lines at = get_or lines at empty_line
-
-at_itself : (lines : List Line) (at : ℕ) → at < length lines → line_at lines at ≡ get_or lines at (line_at lines at)
-at_itself lines at lt = get_or_default lines at empty_line (line_at lines at) lt
 
 abbrev cut : ℕ → ℕ → Cut
 cut from to = record { from = from; to = to }
@@ -35,13 +31,12 @@ ends zero lines height from to e some fits unmarked = (
 )
 ends (suc left) lines height from to e some fits unmarked =
     let there : to - 1 < length lines = omega arith in
-    let last = at_itself lines (to - 1) there in
     elim (cases_Bool (line_at lines (to - 1)).page_end) [
       | inl marked ↦
           let end : to - 1 + 1 ≡ to = omega arith in
           let ended : All EndsPage (slice_range lines (to - 1) to) =
           subst (λ n. All EndsPage (slice_range lines (to - 1) n)) end
-          (all_one EndsPage lines (to - 1) (line_at lines (to - 1)) there last marked) in (
+          (all_one EndsPage lines (to - 1) empty_line there marked) in (
             to,
             record {
               some = some;
@@ -56,7 +51,7 @@ ends (suc left) lines height from to e some fits unmarked =
             let end : to - 1 + 1 ≡ to + 1 - 1 = omega arith in
             let longer : All Unmarked (slice_range lines from (to + 1 - 1)) =
             subst (λ n. All Unmarked (slice_range lines from n)) end
-            (all_push Unmarked lines from (to - 1) (line_at lines (to - 1)) (omega arith) there last unmarked plain) in
+            (all_more Unmarked lines from (to - 1) empty_line (omega arith) there unmarked plain) in
             ends left lines height from (to + 1) (omega arith) (omega arith) (omega arith) longer
         | inr full ↦ (
           to,

@@ -18,7 +18,7 @@ use Rattle.tx_layout.specs.Rows.{Narrow}
 use Rattle.tx_layout.specs.Segments.{piece_of, width_at, lines_of, HasWords}
 use Rattle.tx_layout.specs.Shapes.{Whole, is_break, behind_cut, or_empty, HasLines, last_segment, then_cut, IsShape}
 use Rattle.tx_layout.proofs.Spans.{at_least}
-use Rattle.tx_layout.proofs.Widths.{all_shown}
+use Rattle.tx_existence.proofs.Narrow.{all_capped}
 use Rattle.tx_existence.proofs.Spanning.{some_spans}
 
 -- ---- widths
@@ -100,5 +100,5 @@ pub some_shape : (p : Paragraph) (width : ℕ) → 20 ≤ width → All IsNarrow
     → (lines : List Line) × IsShape p width lines
 some_shape p width wide narrow =
     let frame : Frame = line_frame p width in
-    let shown = all_shown (least_width frame) p.items (least_is p width wide) narrow in
+    let shown = all_capped (least_width frame) p.items (least_is p width wide) narrow in
     some_lines frame true [] _ (All-nil Whole) (All-nil (Narrow (least_width frame))) shown

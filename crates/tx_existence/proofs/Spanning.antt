@@ -3,7 +3,7 @@ use Rattle.std.proofs.Common.{◌≡◌, ℕ, zero, suc, ◌+◌, ◌-◌, ◌<�
 use Rattle.std.proofs.Common.{refl, sym, ap, ◌∙◌, subst, arith, true, false}
 use Rattle.std.specs.Prelude.{slice_range, All, ◌⊎◌}
 use Rattle.std.proofs.lemmas.Bool.{cases_lt, cases_Bool}
-use Rattle.std.proofs.lemmas.List.{length-drop, take_all, drop_all, get_or_default}
+use Rattle.std.proofs.lemmas.List.{length-drop, take_all, drop_all}
 use Rattle.std.proofs.lemmas.List.Elements.{All-nil}
 use Rattle.tx_items.specs.declared.drawing.Item.{Item}
 use Rattle.tx_items.specs.declared.drawing.Item.TheVariants.{Break}
@@ -12,13 +12,10 @@ use Rattle.tx_layout.specs.declared.pieces.Span.{Span}
 use Rattle.tx_layout.specs.Words.{is_blank_item, is_chance_item, Solid, Blank, Breakable, Unbreakable, IsSpan}
 use Rattle.tx_layout.specs.Words.{SpansFrom}
 use Rattle.tx_layout.specs.Rows.{Narrow}
-use Rattle.tx_layout.proofs.Slices.{all_none, all_one, all_push, cells_one}
+use Rattle.tx_existence.proofs.Slices.{slice_one, all_none, all_more, all_one}
 
 abbrev item_at : List Item → ℕ → Item
 item_at items at = get_or items at Break
-
-at_itself : (items : List Item) (at : ℕ) → at < length items → item_at items at ≡ get_or items at (item_at items at)
-at_itself items at lt = get_or_default items at Break (item_at items at) lt
 
 -- spaces from a place on end at another
 record AreSpaces (items : List Item) (at from : ℕ) : Type 0 where
@@ -36,7 +33,7 @@ spaces (suc left) items at from e on blank =
     elim (cases_Bool (is_blank_item (item_at items from))) [
       | inl is ↦
           spaces left items at (from + 1) (omega arith) (omega arith)
-          (all_push Blank items at from (item_at items from) on more (at_itself items from more) blank is)
+          (all_more Blank items at from Break on more blank is)
       | inr solid ↦ (from, record { onward = on; within = omega arith; blank = blank; stops = λ lt. solid })
     ]
 
@@ -57,7 +54,7 @@ after_chance items to some within is =
     let there : to - 1 < length items = omega arith in
     let end : to - 1 + 1 ≡ to = omega arith in
     subst (λ n. All Breakable (slice_range items (to - 1) n)) end
-    (all_one Breakable items (to - 1) (item_at items (to - 1)) there (at_itself items (to - 1) there) is)
+    (all_one Breakable items (to - 1) Break there is)
 
 no_chance_yet : (items : List Item) (from to : ℕ) → from < to → to ≤ length items
     → All Unbreakable (slice_range items from (to - 1)) → Unbreakable (item_at items (to - 1))
@@ -66,8 +63,7 @@ no_chance_yet items from to some within so_far is =
     let there : to - 1 < length items = omega arith in
     let end : to - 1 + 1 ≡ to + 1 - 1 = omega arith in
     subst (λ n. All Unbreakable (slice_range items from n)) end
-    (all_push Unbreakable items from (to - 1) (item_at items (to - 1)) (omega arith) there
-    (at_itself items (to - 1) there) so_far is)
+    (all_more Unbreakable items from (to - 1) Break (omega arith) there so_far is)
 
 ends : (left least : ℕ) (items : List Item) (from to : ℕ) → to + left ≡ length items → from < to
     → All Solid (slice_range items from to) → All Unbreakable (slice_range items from (to - 1))
@@ -85,7 +81,6 @@ ends zero least items from to e some solid unbroken narrow = (
 )
 ends (suc left) least items from to e some solid unbroken narrow =
     let more : to < length items = omega arith in
-    let there = at_itself items to more in
     elim (cases_Bool (is_blank_item (item_at items to))) [
       | inl blank ↦ (
         to,
@@ -95,7 +90,7 @@ ends (suc left) least items from to e some solid unbroken narrow =
           solid = solid;
           unbroken = unbroken;
           narrow = narrow;
-          greatest = λ lt. inl (all_one Blank items to (item_at items to) more there blank);
+          greatest = λ lt. inl (all_one Blank items to Break more blank);
         },
       )
       | inr no_space ↦ elim (cases_Bool (is_chance_item (item_at items (to - 1)))) [
@@ -124,7 +119,7 @@ ends (suc left) least items from to e some solid unbroken narrow =
           )
           | inr room ↦
               ends left least items from (to + 1) (omega arith) (omega arith)
-              (all_push Solid items from to (item_at items to) (omega arith) more there solid no_space)
+              (all_more Solid items from to Break (omega arith) more solid no_space)
               (no_chance_yet items from to some (omega arith) unbroken no_chance) room
         ]
       ]
@@ -134,13 +129,12 @@ ends (suc left) least items from to e some solid unbroken narrow =
 piece : (least : ℕ) (items : List Item) (from : ℕ) → All (Narrow least) items → from < length items
     → Solid (item_at items from) → (end : ℕ) × IsEnd least items from end
 piece least items from narrow more solid =
-    let there = at_itself items from more in
     let none : from ≡ from + 1 - 1 = omega arith in
     let own : Narrow least (item_at items from) = narrow from Break more in
-    let cells = cells_one items from (item_at items from) more there in
+    let cells = ap cells_across (slice_one items from Break more) in
     let left : from + 1 + (length items - (from + 1)) ≡ length items = omega arith in
     ends (length items - (from + 1)) least items from (from + 1) left (omega arith)
-    (all_one Solid items from (item_at items from) more there solid)
+    (all_one Solid items from Break more solid)
     (subst (λ n. All Unbreakable (slice_range items from n)) none (all_none Unbreakable items from)) (omega arith)
 
 spans_from : (left least : ℕ) (items : List Item) (at : ℕ) → All (Narrow least) items → at ≤ length items

@@ -11,12 +11,12 @@ use Rattle.tx_items.specs.declared.attributes.Attrs.{Attrs}
 use Rattle.tx_items.specs.declared.drawing.Paragraph.{Paragraph}
 use Rattle.tx_items.specs.Narrow.{IsNarrow}
 use Rattle.tx_items.specs.Shows.{show}
-use Rattle.tx_items.proofs.Narrowing.{shown_narrow}
 use Rattle.tx_layout.specs.declared.layout.Line.{Line}
 use Rattle.tx_view_form.specs.Outcomes.{Moment, beginning, outcome, behind, unit_value}
 use Rattle.tx_view_form.specs.Started.{attributes_of}
 use Rattle.tx_view_form.specs.Views.{UnitView, AreLines, no_lines, lines_then, paragraphs_at, IsShown, AreShown}
 use Rattle.tx_view_form.specs.Views.{lines_of, WideView, IsView}
+use Rattle.tx_existence.proofs.Narrow.{shown_narrow}
 use Rattle.tx_existence.proofs.Shaping.{some_shape}
 use Rattle.tx_existence.proofs.Paging.{some_paging}
 

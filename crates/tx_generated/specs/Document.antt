@@ -6,11 +6,11 @@ use Rattle.std.specs.List.{join_by, range_with_len}
 
 -- ---- numbers
 
--- a linear congruential generator: the number behind this one
+-- a linear congruential generator: the number after this one
 abbrev pub next : ℕ → ℕ
 next x = (x * 1103515245 + 12345) % 2 ^ 31
 
--- the i-th number behind the first one, without its 16 low bits
+-- the i-th number after the first one, without its 16 low bits
 abbrev pub drawn_number : ℕ → ℕ → ℕ
 drawn_number first i = iterate next i first / 2 ^ 16
 
@@ -25,7 +25,7 @@ words =
 abbrev pub word : ℕ → List ℕ
 word n = get_or words (n % 8) []
 
--- the first word: as it is, in a tag, behind an assignment of it, or behind the value
+-- the first word: as it is, in a tag, after an assignment of it, or after the value
 abbrev pub leading_word : ℕ → List ℕ → List ℕ
 leading_word kind w =
     if kind == 0 then w
@@ -37,7 +37,7 @@ leading_word kind w =
 abbrev pub more_words : ℕ → ℕ → List ℕ
 more_words a step = flat_map (λ j. codes " " ++ word (a + j * step)) (range_with_len 1 5)
 
--- Six words, of which each is so many further than the one before. The low bits of the number that was drawn tell the
+-- Six words, of which each is so many further than the one before. The low bits of the number that was drawn give the
 -- first word, those above them the step, which is odd, and the two above these the kind.
 abbrev pub generated_paragraph : ℕ → List ℕ
 generated_paragraph drawn =
@@ -45,7 +45,7 @@ generated_paragraph drawn =
 
 -- ---- the document
 
--- an assignment, and so many paragraphs behind it
+-- an assignment, and so many paragraphs after it
 abbrev pub generated_paragraphs : ℕ → ℕ → List (List ℕ)
 generated_paragraphs number count =
     codes "<assign|v|tree>" ∷ map (λ i. generated_paragraph (drawn_number number i)) (range_with_len 1 count)

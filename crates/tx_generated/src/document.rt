@@ -13,7 +13,7 @@ const WORDS: [&str; 8] = [
 // No paragraph has more bytes, with the white before it.
 const MOST_BYTES: usize = 53;
 
-// The number behind this one.
+// The number after this one.
 fn next(x: u32) -> u32
     ensures { result ≡ next x }
 {
@@ -70,8 +70,8 @@ fn append_paragraph(drawn: u32, out: &mut Vec<u8>) -> Result<(), Memory>
     append_more(a, 2 * (drawn / 8 % 8) + 1, out)
 }
 
-/// The text of a document in TM, generated from a number below 2^31: an assignment, and behind it `count` paragraphs, 1
-/// to 60,000, with an empty line between two paragraphs and nothing behind the last one. Each paragraph is six of eight
+/// The text of a document in TM, generated from a number below 2^31: an assignment, and after it `count` paragraphs, 1
+/// to 60,000, with an empty line between two paragraphs and nothing after the last one. Each paragraph is six of eight
 /// words, in one of four forms, which the linear congruential generator x * 1103515245 + 12345 modulo 2^31 picks.
 ///
 /// It has fewer than 2^22 bytes. Memory may run out at any time.

@@ -1,7 +1,7 @@
-//! A large document from a number: a text in TM of words that a linear congruential generator picks, the same one
-//! each time.
+//! A large document from a number: a text in TM of words that a linear congruential generator picks, the same one each
+//! time.
 //!
-//! What the text is says `document_text` of `specs/Document.antt`, and `specs/Tree.antt` has the tree that it spells.
+//! `document_text` of `specs/Document.antt` says what the text is, and `specs/Tree.antt` has the tree that it spells.
 #![tactic(auto)]
 
 mod document;

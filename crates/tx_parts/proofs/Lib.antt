@@ -2,6 +2,7 @@ pub mod Maps
 pub mod UnderValues
 pub mod Shifting
 pub mod PartRuns
+pub mod FrameRuns
 pub mod Running
 pub mod Children
 pub mod Restoring

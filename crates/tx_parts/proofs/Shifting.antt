@@ -287,8 +287,8 @@ module _ (w : NameMap) (l : LookMap) (n : ℕ) where
       abbrev Values : Run (List WideValue) → Run (List WideValue) → Type 0
       Values m m' = Shifts (map V) m m'
 
-      eachs : (ts : List TaggedTree) (vs : List WideValue) → Values (each below f vs ts) (each below (F f) (map V vs)
-          (map T ts))
+      pub eachs : (ts : List TaggedTree) (vs : List WideValue) →
+          Values (each below f vs ts) (each below (F f) (map V vs) (map T ts))
       eachs [] vs = gives (map V) vs
       eachs (t ∷ ts) vs = bind (λ u. each below (F f) (map V vs ++ u ∷ []) (map T ts)) (belows t f)
           (λ v. subst (λ us. Values (each below f (vs ++ v ∷ []) ts) (each below (F f) us (map T ts)))

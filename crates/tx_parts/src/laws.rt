@@ -15,14 +15,14 @@ ghost use Rattle.tx_origin.specs.TaggedTrees.{TaggedTree};
 ghost use Rattle.tx_exec_form.specs.Maps.{LookMap, noted};
 ghost use Rattle.tx_exec_form.specs.Runs.{Before, State, Done, Over};
 ghost use Rattle.tx_exec_form.specs.Frames.{Frame, top};
-ghost use Rattle.tx_exec_form.specs.Rows.{ex};
+ghost use Rattle.tx_exec_form.specs.Rows.{ex, each};
 ghost use Rattle.tx_exec_form.specs.Evaluated.{WideTrace, evaluated_in, paid};
 ghost use Rattle.tx_exec_form.specs.Laws.{Agrees, Supports};
-ghost use Rattle.tx_exec_form.specs.Framed.{framed, SupportsFramed};
+ghost use Rattle.tx_exec_form.specs.Framed.{framed, SupportsFramed, run_framed};
 ghost use Rattle.tx_parts.specs.Atop.{atop, env_atop, past, both_looks};
 ghost use Rattle.tx_origin.specs.Under.{tree_under, value_under};
 ghost use Rattle.tx_parts.specs.Adding.{after_part, part_ran};
-ghost use Rattle.tx_parts.specs.InFrames.{frame_under};
+ghost use Rattle.tx_parts.specs.InFrames.{frame_under, ran_here, run_ran, run_joined};
 ghost use Rattle.tx_parts.specs.Openness.{openness};
 ghost use Rattle.tx_parts.specs.Composed.{evaluates, composed_as};
 ghost use Rattle.tx_parts.specs.Layered.{composed};
@@ -48,11 +48,15 @@ pub fn part_law()
 {}
 
 /// A law: in any frame a part does in the whole what it does alone, as without one. The frame of the whole has the
-/// arguments of the part's frame, with their origins under the part's path.
+/// arguments of the part's frame, with their origins under the part's path. Where the origins are those of the whole
+/// already, `here` says the same without a path. Trees one after the other do in the whole what they do alone, and
+/// their trace is that of the first joined with that of the others.
 pub fn frame_law()
     ensures part { (f : Frame) (k : ℕ) (path : List ℕ) (t : TaggedTree) (e : Before) (s : State) → s.slack ≤ k →
         ex k (tree_under path t) (frame_under path f) e s ≡
         part_ran k path s (framed f k s.left t (env_atop s.own e)) }
+    ensures here { (f : Frame) (k : ℕ) (t : TaggedTree) (e : Before) (s : State) → s.slack ≤ k →
+        ex k t f e s ≡ ran_here k s (framed f k s.left t (env_atop s.own e)) }
     ensures kept { (f : Frame) (trace : WideTrace) (k : ℕ) (path : List ℕ) (t : TaggedTree) (e : Before) (s : State) →
         s.slack ≤ k → SupportsFramed f trace t → Agrees (env_atop s.own e) trace.looks → trace.cost ≤ s.left →
         trace.height ≤ k →
@@ -61,6 +65,11 @@ pub fn frame_law()
     ensures too_dear { (f : Frame) (trace : WideTrace) (k : ℕ) (path : List ℕ) (t : TaggedTree) (e : Before)
         (s : State) → s.slack ≤ k → SupportsFramed f trace t → Agrees (env_atop s.own e) trace.looks →
         (s.left < trace.cost) ⊎ (k < trace.height) → ex k (tree_under path t) (frame_under path f) e s ≡ Over }
+    ensures run { (f : Frame) (k : ℕ) (path : List ℕ) (ts : List TaggedTree) (e : Before) (s : State) → s.slack ≤ k →
+        each (ex k) (frame_under path f) [] (map (tree_under path) ts) e s ≡
+        run_ran k path s (run_framed f k s.left ts (env_atop s.own e)) }
+    ensures next { (f : Frame) (k c : ℕ) (t : TaggedTree) (ts : List TaggedTree) (e : Before) →
+        run_framed f k c (t ∷ ts) e ≡ run_joined f k c t ts e }
 {}
 
 /// A law: the trace of an open tree is composed of the traces of its inner trees, each evaluated alone in the

@@ -36,7 +36,7 @@ counted_more es e n m h i =
 
 -- ---- as a collection
 
--- behind so many tags of this size
+-- after so many tags of this size
 record IsBelow (n : Tally) (count whole : ℕ) : Type 0 where
   ended : n.ended ≤ count
   tags : n.tags ≤ count
@@ -85,7 +85,7 @@ record IsUnder (n : Tally) (s : Stage) (full : List WideTree) (now : Inline) : T
   tags : n.tags ≤ tags_in s now
   size : n.size ≤ size_in s full now
 
--- what a tag finds behind a run
+-- what a tag finds after a run
 abbrev full_with : Stage → Option White → List WideTree → Inline → List WideTree
 full_with Empty r full now = []
 full_with s r full now = ended r full now
@@ -135,7 +135,7 @@ first_under true n None c t e f g h = absurd cc
 first_under false n r true t e f g h = record { ended = f; tags = omega (arith, g); size = omega (arith, h) }
 first_under false n r false t e f g h = record { ended = f; tags = omega (arith, g); size = omega (arith, h) }
 
--- a later one, behind so many paragraphs, trees and bytes
+-- a later one, after so many paragraphs, trees and bytes
 later_under : (z : Bool) (n : Tally) (r : Option White) (t : WideTree) (full : List WideTree) (now : Inline)
     → begins_paragraph r n.tags ≡ z → n.ended ≤ length full → n.tags ≤ length now.done
     → n.size ≤ total_size (forest full) + total_size (forest now.done)

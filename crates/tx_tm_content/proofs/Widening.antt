@@ -36,7 +36,7 @@ pub tag_widens : (b : Block) (c : Bool) (t : WideTree)
     → widen b (tag c t) ≡ block_at (tag_stage b.stage c) (full_behind b) (grow (now_behind b) (tag false t))
 tag_widens b c t = tag_at b.stage b c t
 
--- where no part goes on, no block comes of it
+-- where no part can be added, there is no block with it
 pub text_stuck : (b : Block) (x : List ℕ) → ((k : ℕ) → RowFits k (full_behind b) → LineFits k (now_behind b) → ⊥)
     → (k : ℕ) → BlockFits k (widen b (text x)) → ⊥
 text_stuck b x h k i =

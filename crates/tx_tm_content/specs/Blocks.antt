@@ -42,14 +42,14 @@ full_behind b = full_at b.stage b
 abbrev pub now_behind : Block → Inline
 now_behind b = now_at b.stage b
 
--- what becomes of the stage where a tag comes
+-- the stage after a tag
 abbrev pub tag_stage : Stage → Bool → Stage
 tag_stage Empty true = Alone
 tag_stage Empty false = Ordinary
 tag_stage Alone c = Ordinary
 tag_stage Ordinary c = Ordinary
 
--- a block that is behind no white
+-- a block without white at its end
 abbrev pub block_at : Stage → List WideTree → Inline → Block
 block_at s full now = record { full = full; now = now; run = None; stage = s }
 
@@ -57,7 +57,7 @@ pub record IsResumedWith (r : Resumed) (full : List WideTree) (now : Inline) : T
   pub full_is : r.full ≡ full
   pub now_is : r.now ≡ now
 
--- these, or else no tree within the limits comes of them
+-- these, or else they lead to no tree within the limits
 abbrev pub IsGoing : Option Resumed → List WideTree → Inline → Type 0
 IsGoing None full now = (around : ℕ) → RowFits around full → LineFits around now → ⊥
 IsGoing (Some r) full now = IsResumedWith r full now
@@ -65,7 +65,7 @@ IsGoing (Some r) full now = IsResumedWith r full now
 abbrev pub IsResumed : Option Resumed → Block → Type 0
 IsResumed next b = IsGoing next (full_behind b) (now_behind b)
 
--- grown, or else no tree within the limits comes of it
+-- grown, or else it leads to no tree within the limits
 abbrev pub IsBlock : Option Paragraphs → Block → Type 0
 IsBlock None b = (around : ℕ) → BlockFits around b → ⊥
 IsBlock (Some p) b = block_of p ≡ b
@@ -75,7 +75,7 @@ abbrev pub IsTagged : Option Paragraphs → Stage → List WideTree → Inline �
 IsTagged None s full now = (around : ℕ) → LineFits around now → ⊥
 IsTagged (Some p) s full now = block_of p ≡ block_at s full now
 
--- with a tag more, or else no tree within the limits comes of it
+-- with a tag more, or else it leads to no tree within the limits
 abbrev pub IsTagList : Option TagList → Content → Type 0
 IsTagList None c = (around : ℕ) → ContentFits around c → ⊥
 IsTagList (Some x) c = collecting (tags_of x) ≡ c

@@ -14,7 +14,7 @@ inline_code =
     (coded× (coded_list coded_WideTree) (coded× (coded_list coded_ℕ) coded_bool)) (λ g. (g.done, (g.bytes, g.in_run)))
     (λ p. record { done = p.0; bytes = p.1.0; in_run = p.1.1 }) (λ _. refl)
 
--- the bytes behind the last tag are a text within the limit
+-- the bytes after the last tag are a text within the limit
 pub record IsLineText (bytes : List ℕ) : Type 0 where
   pub text : IsText bytes
   pub short : length bytes ≤ MOST_TEXT
@@ -24,7 +24,7 @@ abbrev pub IsMade : Option WideTree → WideTree → Type 0
 IsMade None t = IsWithinLimits t → ⊥
 IsMade (Some u) t = u ≡ t
 
--- grown, or else no tree within the limits comes of it
+-- grown, or else it leads to no tree within the limits
 abbrev pub IsLine : Option Inline → Inline → Type 0
 IsLine None g = (around : ℕ) → LineFits around g → ⊥
 IsLine (Some h) g = h ≡ g

@@ -1,4 +1,4 @@
--- Tags of what may be a collection, counted as they stand in paragraphs.
+-- Tags of what may be a collection, counted as they are in paragraphs.
 use Rattle.std.specs.Prelude.{◌≤◌, ◌+◌, ℕ, suc, Bool, true, false, nat_lt, List, [], ◌∷◌, Option, Some}
 use Rattle.tx_tree.specs.declared.TheConstants.{MOST_ARITY, MOST_SIZE}
 use Rattle.tx_tree.specs.WideTree.{size_of}
@@ -7,7 +7,7 @@ use Rattle.tx_tm_form.specs.declared.bytes.White.TheVariants.{Break}
 use Rattle.tx_tm_form.specs.Growing.{CollectionEntry}
 use Rattle.tx_tm_content.specs.declared.tag_rows.Tally.{Tally}
 
--- a tag behind the run is the first of a paragraph, behind so many tags of another
+-- a tag after the run is the first of a paragraph, after so many tags of another
 abbrev pub begins_paragraph : Option White → ℕ → Bool
 begins_paragraph (Some Break) tags = nat_lt 0 tags
 begins_paragraph run tags = false
@@ -29,7 +29,7 @@ no_tally = record { ended = 0; tags = 0; size = 0 }
 abbrev pub tally_of : List CollectionEntry → Tally
 tally_of es = tally_from no_tally es
 
--- so many may stand in a collection or in a document within the limits
+-- so many may be in a collection or in a document within the limits
 pub record IsTallyWithinLimits (n : Tally) : Type 0 where
   pub ended : n.ended ≤ MOST_ARITY
   pub tags : n.tags ≤ MOST_ARITY

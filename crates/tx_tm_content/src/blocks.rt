@@ -26,15 +26,14 @@ use tx_tm_form::{Stage, TagPlace, White};
 use tx_tm_words::longer;
 use tx_tree::Tree;
 
-/// A block as far as it has been read: the paragraphs that have ended, the one that is open, and the white
-/// behind it.
+/// A block as far as it has been read: the paragraphs that have ended, the one that is open, and the white after it.
 #[derive(Drop)]
 pub struct Paragraphs {
     /// The paragraphs that have ended.
     pub full: Siblings,
     /// The one that is open.
     pub now: OpenLine,
-    /// The white behind it.
+    /// The white after it.
     pub run: Option<White>,
     /// What the block holds so far.
     pub stage: Stage,
@@ -266,7 +265,7 @@ fn tag_stage(stage: Stage, collects: bool) -> Stage
     }
 }
 
-// Where a part goes on behind the paragraph and the run.
+// Where a part goes on after the paragraph and the run.
 #[tactic(auto, using(crate::proofs::Counts::nodes_both, crate::proofs::Fitting::last_small))]
 #[inline(always)]
 fn behind_run<L: Ledger>(
@@ -299,7 +298,7 @@ fn behind_run<L: Ledger>(
     }
 }
 
-// Where a part goes on behind white that separates no paragraphs.
+// Where a part goes on after white that separates no paragraphs.
 #[inline(always)]
 fn spaced(full: Siblings, now: OpenLine) -> Result<Option<Resumed>, Memory>
     ensures { IfOk result (λ next. IsGoing next full (grow now (gap Spaces))) }
@@ -315,7 +314,7 @@ fn spaced(full: Siblings, now: OpenLine) -> Result<Option<Resumed>, Memory>
 pub struct TagList {
     /// The tags.
     pub entries: TagRow,
-    /// The white behind them.
+    /// The white after them.
     pub run: Option<White>,
 }
 
@@ -346,7 +345,7 @@ impl TagList {
         }
     }
 
-    // The same as an ordinary block, or None where a limit is passed.
+    // The tags as an ordinary block, or None where a limit is passed.
     fn into_paragraphs<L: Ledger>(
         self,
         labels: &Labels,

@@ -1,8 +1,8 @@
 //! Content of TM that grows, with trees that are made as soon as their ends are read: arguments, blocks, and what may
 //! be the block of a collection.
 //!
-//! What content stands for is in `tx_tm_form` (`specs/Growing.antt`). Each function is one of its equations, or answers
-//! None where no tree within the limits can come of it (`specs/ContentFits.antt`).
+//! What content stands for is in `tx_tm_form` (`specs/Growing.antt`). Each function is one of its equations, or returns
+//! None where it can lead to no tree within the limits (`specs/ContentFits.antt`).
 #![tactic(auto)]
 
 mod blocks;

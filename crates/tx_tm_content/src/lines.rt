@@ -19,8 +19,8 @@ use std::sync::ledger::Ledger;
 use tx_base::{Memory, Steps};
 use tx_tree::{MOST_TEXT, Tree};
 
-/// An argument or a paragraph as far as it has been read: its trees, the text behind them, and whether a run
-/// of white ends that.
+/// An argument or a paragraph as far as it has been read: its trees, the text after them, and whether a run of white
+/// ends that.
 #[derive(Drop)]
 pub struct OpenLine {
     done: Siblings,

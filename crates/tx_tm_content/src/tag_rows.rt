@@ -1,4 +1,4 @@
-// Tags that may become the children of a collection, or stand in paragraphs.
+// Tags that may become the children of a collection, or be in paragraphs.
 ghost use Rattle.std.specs.Prelude.{◌≡◌, ◌↔◌, ◌++◌, ◌∷◌, [], IfOk, IsTrue};
 ghost use Rattle.tx_tm_content.specs.Tallies.{begins_paragraph, tally_more, no_tally, IsTallyWithinLimits};
 ghost use Rattle.tx_tm_content.specs.TagRows.{entry_of, IsTagRowed};
@@ -28,7 +28,7 @@ pub(crate) struct Tally {
     size: u64,
 }
 
-// Whether a tag behind the run is the first of a paragraph, behind so many tags of another.
+// Whether a tag after the run is the first of a paragraph, after so many tags of another.
 fn begins_paragraph(run: Option<White>, tags: usize) -> bool
     ensures { result ≡ begins_paragraph run tags }
 {
@@ -67,7 +67,7 @@ impl Tally {
         }
     }
 
-    // Whether so many may stand in a collection or in a document within the limits.
+    // Whether so many may be in a collection or in a document within the limits.
     fn is_few(self) -> bool
         ensures { IsTrue result ↔ IsTallyWithinLimits self }
     {

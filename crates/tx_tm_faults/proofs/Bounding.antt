@@ -67,7 +67,7 @@ not_zero n x y h = grind arith
 more_than_one : (n : ℕ) (x y z : Sums) → 2 ≤ n → z ≡ (if n == 0 then x else if n == 1 then y else z)
 more_than_one n x y z h = grind arith
 
--- what holds of each answer of a test holds of its answer
+-- what holds of each branch of a test holds of its result
 by_zero : (P : Sums → Type 0) (n : ℕ) (x y : Sums) → (n ≡ 0 → P x) → (1 ≤ n → P y) → P (if n == 0 then x else y)
 by_zero P zero x y f g = f refl
 by_zero P (suc n) x y f g = subst P (not_zero (suc n) x y (omega arith)) (g (omega arith))

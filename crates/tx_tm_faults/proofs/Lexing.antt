@@ -1,4 +1,4 @@
--- The bytes of words, and where labels stand in them.
+-- The bytes of words, and where labels are in them.
 use Rattle.std.proofs.Common.{◌≡◌, ℕ, ◌+◌, Bool, true, false, nat_lt, nat_le, List, [], ◌∷◌, ◌++◌, length, take, drop}
 use Rattle.std.proofs.Common.{refl, sym, ap, subst, ◌∙◌, append_assoc, arith}
 use Rattle.std.proofs.Math.Seq.{take-append_seam, drop-append_seam}
@@ -109,7 +109,7 @@ part_there u v w x e =
     ap (λ z. take (length v) (drop (length u) z)) e ∙ ap (take (length v)) (drop-append_seam u (v ++ w))
     ∙ take-append_seam v w
 
--- the label of a word that stands there
+-- the label of a word that is there
 pub label_there : (bytes : List ℕ) (n : ℕ) (form : TagForm) (l : List ℕ) (more : Bool)
     → BytesStandAt bytes n (written (head form l more)) → BytesStandAt bytes (n + (1 + length (form_mark form))) l
 label_there bytes n form l more h =

@@ -42,7 +42,7 @@ taken_so_far bytes n s e =
     let t = words_taken (take n bytes) (lex_of s.lexer) (marked_of bytes s) e in
     omega (arith, t.2, ap length t.1, length-append t.0 (begun_bytes (lex_of s.lexer)), length-take n bytes)
 
--- what has begun of a word, and the next byte, stand behind the bytes that were taken
+-- what has begun of a word, and the next byte, are after the bytes that were taken
 pub begun_there : (bytes : List ℕ) (n : ℕ) (s : Scan) → n < length bytes
     → run keep_marks start_marks (take n bytes) ≡ scan_of bytes s
     → BytesStandAt bytes s.taken (begun_bytes (lex_of s.lexer) ++ get_or bytes n 0 ∷ [])

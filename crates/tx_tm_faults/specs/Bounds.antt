@@ -23,7 +23,7 @@ IsSmallCount n = n + 1 < 2 ^ 64
 abbrev pub most_of : Sums → ℕ
 most_of s = max s.count (max s.depth s.size)
 
--- of the tree of a line: its trees, the text behind them as a leaf, and a node of both
+-- of the tree of a line: its trees, the text after them as a leaf, and a node of both
 abbrev pub most_in_line : LineSums → ℕ
 most_in_line g = most_of g.done + g.length + min 1 g.done.count + 1
 
@@ -53,11 +53,11 @@ most_in_content (Argument p g) = most_in_line g + of_place p
 most_in_content (Block b) = most_in_block b
 most_in_content (Tags s b) = max (most_of s) (most_in_block b)
 
--- of the tag, as a part of what stands before it
+-- of the tag, as a part of what is before it
 abbrev pub most_in_open : OpenSums → ℕ
 most_in_open o = most_in_content o.before + most_of o.children + 2
 
--- of all tags that stand open
+-- of all open tags
 abbrev pub most_in_opens : List OpenSums → ℕ
 most_in_opens [] = 0
 most_in_opens (o ∷ os) = most_in_open o + most_in_opens os

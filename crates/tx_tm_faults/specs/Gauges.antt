@@ -1,4 +1,4 @@
--- Where measuring stands, as a state of the machine with measures.
+-- The state of measuring, as a state of the machine with measures.
 use Rattle.std.specs.Prelude.{◌≡◌, List, map, reverse, Option, Some, None}
 use Rattle.tx_tm_form.specs.declared.measures.ContentSums.{ContentSums}
 use Rattle.tx_tm_form.specs.declared.measures.ContentSums.TheVariants as sums

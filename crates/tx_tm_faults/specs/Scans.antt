@@ -1,4 +1,4 @@
--- Where the scan stands, as a state of the machine with marks.
+-- The state of the scan, as a state of the machine with marks.
 use Rattle.std.specs.Prelude.{◌≡◌, ℕ, false, List, Option, Some, None}
 use Rattle.tx_tree.specs.declared.faults.ReadFault.{ReadFault}
 use Rattle.tx_tree.specs.ReadFaults.{SpellsSome}

@@ -1,11 +1,11 @@
--- Where a byte stands among open tags, as the machine with marks sees it.
+-- Where a byte is among open tags, as the machine with marks sees it.
 use Rattle.std.specs.Prelude.{◌≡◌, ℕ, List, [], ◌∷◌, length, take, drop, map, reverse, Option, Some, None}
 use Rattle.tx_tm_form.specs.declared.marks.TagMark.{TagMark}
 use Rattle.tx_tm_form.specs.Marks.{Standing}
 use Rattle.tx_tm_faults.specs.declared.marking.OpenMark.{OpenMark}
 use Rattle.tx_tm_faults.specs.declared.marking.Stand.{Stand}
 
--- the part stands at this place of the bytes
+-- the part is at this place of the bytes
 abbrev pub BytesStandAt : List ℕ → ℕ → List ℕ → Type 0
 BytesStandAt bytes at part = take (length part) (drop at bytes) ≡ part
 

@@ -17,7 +17,7 @@ use tx_tm_form::{Escaped, Inside, TagForm, TagPlace, escape_of};
 use tx_tm_words::{TmWord, header_place, is_digit, same_bytes};
 use tx_tree::{Label, MOST_NAME, is_name_byte};
 
-/// An open tag. Its label is kept by its place in the bytes, so that each takes 24 bytes.
+/// An open tag. Its label is stored as its place in the bytes, so that each takes 24 bytes.
 #[derive(Clone, Copy)]
 pub(crate) struct OpenMark {
     /// The place of its `<`.
@@ -26,7 +26,7 @@ pub(crate) struct OpenMark {
     pub(crate) label_at: usize,
     /// How many bytes the label has.
     pub(crate) label_len: u8,
-    /// The argument of it that stands open, or None where a block does.
+    /// The argument of it that is open, or None where a block is.
     pub(crate) inner: Option<TagPlace>,
 }
 
@@ -40,7 +40,7 @@ impl OpenMark {
     }
 }
 
-/// Where a byte stands, and the open tags round it, the innermost last.
+/// Where a byte is, and the open tags round it, the innermost last.
 #[derive(Drop)]
 pub(crate) struct Stand {
     pub(crate) inside: Inside,
@@ -74,7 +74,7 @@ fn within(
     Ok(between(marks))
 }
 
-// Behind `|` in what stands open of the tag.
+// The state after `|` in what is open of the tag.
 fn bar_in(mark: OpenMark, marks: Vec<OpenMark>) -> Result<Option<Stand>, Memory>
     ensures { (bytes : List ℕ) → IfOk result (λ next.
         stood bytes next ≡ mark_bar mark.inner (mark_in bytes mark ∷ tag_marks bytes marks.items)) }
@@ -85,7 +85,7 @@ fn bar_in(mark: OpenMark, marks: Vec<OpenMark>) -> Result<Option<Stand>, Memory>
     }
 }
 
-// Behind `>` there.
+// The state after `>` in what is open of the tag.
 fn close_in(mark: OpenMark, marks: Vec<OpenMark>) -> Result<Option<Stand>, Memory>
     ensures { (bytes : List ℕ) → IfOk result (λ next.
         stood bytes next ≡ mark_close mark.inner (mark_in bytes mark) (tag_marks bytes marks.items)) }
@@ -97,7 +97,7 @@ fn close_in(mark: OpenMark, marks: Vec<OpenMark>) -> Result<Option<Stand>, Memor
     }
 }
 
-// Behind the beginning of a middle or closing tag of this label, with an argument, or with a block behind it.
+// The state after the beginning of a middle or closing tag of this label, with an argument, or with a block after it.
 fn next_in(
     bytes: &[u8],
     label: &Label,
@@ -114,7 +114,7 @@ fn next_in(
     within(mark, inner, marks)
 }
 
-// Behind a closing tag of this label without arguments.
+// The state after a closing tag of this label without arguments.
 fn last_in(bytes: &[u8], label: &Label, mark: OpenMark, marks: Vec<OpenMark>) -> Option<Stand>
     ensures { stood bytes.now result
         ≡ mark_last mark.inner label.now (mark_in bytes.now mark) (tag_marks bytes.now marks.items) }
@@ -167,7 +167,7 @@ fn last_marks(bytes: &[u8], label: &Label, mut marks: Vec<OpenMark>) -> Option<S
     }
 }
 
-// Behind the beginning of a tag that begins, whose `<` is at this place, and its label at that one.
+// The state after the beginning of a tag that begins, whose `<` is at this place, and its label at that one.
 fn new_mark(
     at: usize,
     label_at: usize,
@@ -190,7 +190,7 @@ fn new_mark(
     within(mark, inner, marks)
 }
 
-// Behind the beginning of a tag.
+// The state after the beginning of a tag.
 fn begun_marks(
     bytes: &[u8],
     at: usize,
@@ -224,7 +224,7 @@ fn begun_marks(
     }
 }
 
-// Behind a backslash and a byte.
+// The state after a backslash and a byte.
 fn escape_marks(byte: u8, marks: Vec<OpenMark>) -> Option<Stand>
     ensures { (bytes : List ℕ) → stood bytes result ≡ escape_marks (escape_of byte) byte (tag_marks bytes marks.items) }
 {
@@ -270,7 +270,7 @@ fn part_marks(
     }
 }
 
-// A byte of a symbol's name, behind so many.
+// The state after a byte of a symbol's name, which is after so many.
 fn name_marks(good: bool, length: usize, marks: Vec<OpenMark>) -> Option<Stand>
     ensures { (bytes : List ℕ) → stood bytes result ≡ name_marks good length (tag_marks bytes marks.items) }
 {
@@ -283,7 +283,7 @@ fn name_marks(good: bool, length: usize, marks: Vec<OpenMark>) -> Option<Stand>
     })
 }
 
-// A word more in the name of a symbol, behind so many bytes of it.
+// The state after a word more in the name of a symbol, which is after so many bytes of it.
 fn symbol_marks(length: usize, marks: Vec<OpenMark>, word: &TmWord) -> Option<Stand>
     ensures { (bytes : List ℕ)
         → stood bytes result ≡ symbol_marks length (tag_marks bytes marks.items) (token_of word.now) }
@@ -321,7 +321,7 @@ fn digit_marks(marks: Vec<OpenMark>, word: &TmWord) -> Option<Stand>
 }
 
 impl Stand {
-    /// Behind the word, which begins at this place, or None where it cannot stand there.
+    /// The state after the word, which begins at this place, or None where it cannot be there.
     pub(crate) fn take(
         self,
         bytes: &[u8],

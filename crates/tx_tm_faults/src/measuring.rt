@@ -59,7 +59,7 @@ fn in_open(
     Ok(gauge_between(here, opens))
 }
 
-// Behind the tag.
+// The state after the tag.
 fn closed_open(tag: OpenGauge, opens: Vec<OpenGauge>) -> Gauge
     requires { IsSmallCount (most_in_open (open_of tag) + 1) }
     ensures { gauge_of result ≡ closed_open (open_of tag) (opens_of opens.items) }
@@ -148,7 +148,7 @@ fn new_open(
     in_open(inner, tag, opens)
 }
 
-// Behind the beginning of a tag.
+// The state after the beginning of a tag.
 fn begun_gauge(
     alloc: Global,
     form: TagForm,
@@ -180,7 +180,7 @@ fn begun_gauge(
     }
 }
 
-// Behind so many bytes of a text.
+// The state after so many bytes of a text.
 fn text_gauge(length: u64, here: ContentSums, opens: Vec<OpenGauge>) -> Gauge
     requires { IsSmallCount (most_in_content here + length) }
     ensures { gauge_of result ≡ gauge_between (put_sums here (PartSums.Text length)) (opens_of opens.items) }
@@ -188,7 +188,7 @@ fn text_gauge(length: u64, here: ContentSums, opens: Vec<OpenGauge>) -> Gauge
     gauge_between(put_sums(here, PartSums::Text(length)), opens)
 }
 
-// Behind a backslash and a byte.
+// The state after a backslash and a byte.
 fn escape_gauge(byte: u8, here: ContentSums, opens: Vec<OpenGauge>) -> Gauge
     requires { IsSmallCount (most_in_content here + 1) }
     ensures { gauge_of result ≡ escape_gauge (escape_of byte) here (opens_of opens.items) }
@@ -233,7 +233,7 @@ fn part_gauge(
     }
 }
 
-// A word more in the name of a symbol, behind so many bytes of it.
+// The state after a word more in the name of a symbol, which is after so many bytes of it.
 fn symbol_gauge(length: u64, here: ContentSums, opens: Vec<OpenGauge>, word: &TmWord) -> Gauge
     requires { IsSmallCount (length + most_in_content here + 2) }
     ensures { gauge_of result ≡ symbol_gauge length here (opens_of opens.items) (token_of word.now) }
@@ -248,7 +248,7 @@ fn symbol_gauge(length: u64, here: ContentSums, opens: Vec<OpenGauge>, word: &Tm
     }
 }
 
-// A word more in raw data, behind so many digits.
+// The state after a word more in raw data, which is after so many digits.
 fn digit_gauge(length: u64, here: ContentSums, opens: Vec<OpenGauge>, word: &TmWord) -> Gauge
     requires { IsSmallCount (length + most_in_content here + 4) }
     ensures { gauge_of result ≡ digit_gauge length here (opens_of opens.items) (token_of word.now) }
@@ -267,7 +267,7 @@ fn digit_gauge(length: u64, here: ContentSums, opens: Vec<OpenGauge>, word: &TmW
 }
 
 impl Gauge {
-    // Behind the word.
+    // The state after the word.
     fn take(self, alloc: Global, word: &TmWord) -> Result<Gauge, Memory>
         requires { IsSmallCount (most_in (gauge_of self) + 4) }
         ensures { IfOk result (λ next. gauge_of next ≡ feed_gauge (gauge_of self) (token_of word.now)) }
@@ -299,7 +299,7 @@ impl Meter {
         }
     }
 
-    // Behind a byte, or None where no word goes on so.
+    // The state after a byte, or None where no word goes on so.
     fn step(self, alloc: Global, byte: u8) -> Result<Option<Meter>, Memory>
         requires { IsSmallCount (most_in (gauge_of self.gauge) + 4) }
         ensures { IfOk result (λ next. IsMeter next (step keep_gauge (meter_of self) byte)) }

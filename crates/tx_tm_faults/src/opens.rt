@@ -9,8 +9,8 @@ use std::alloc::Global;
 use tx_base::Memory;
 use tx_tm_form::{BlockSums, ContentSums, LineSums, Sums, TagPlace};
 
-/// The measures of the content before an open tag. Those of a block stand in boxes, so that millions of tags in
-/// arguments of one another take little memory.
+/// The measures of the content before an open tag. Those of a block are in boxes, so that millions of tags in arguments
+/// of one another take little memory.
 #[derive(Drop)]
 pub(crate) enum Before {
     /// Of an argument.
@@ -30,7 +30,7 @@ pub(crate) struct OpenGauge {
     pub(crate) children: Sums,
 }
 
-/// The measures as they are kept.
+/// The measures as they are stored.
 pub(crate) fn kept(alloc: Global, here: ContentSums) -> Result<Before, Memory>
     ensures { IfOk result (λ before. sums_before before ≡ here) }
 {

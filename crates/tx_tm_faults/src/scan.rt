@@ -34,7 +34,7 @@ fn begins(bytes: &[u8], others: &[u8]) -> bool
     others.starts_with(bytes)
 }
 
-// Whether the label so far goes on to that of the innermost tag, of which a block stands open.
+// Whether the label so far goes on to that of the innermost tag, of which a block is open.
 fn begins_marks(bytes: &[u8], label: &LabelFront, marks: &[OpenMark]) -> bool
     ensures { result ≡ begins_marks label.now (tag_marks bytes.now marks.now) }
 {
@@ -107,7 +107,7 @@ pub(crate) struct Scan {
     stand: Stand,
 }
 
-// Behind a word.
+// The state after a word.
 fn behind_word(
     bytes: &[u8],
     taken: usize,
@@ -157,7 +157,7 @@ impl Scan {
         }
     }
 
-    // Whether a word that has begun can go on to one that may stand here.
+    // Whether a word that has begun can go on to one that may be here.
     fn goes_on(&self, bytes: &[u8]) -> bool
         ensures { result ≡ marks_go_on (scan_of bytes.now self.now) }
     {
@@ -205,7 +205,7 @@ impl Scan {
         }
     }
 
-    // Behind a byte, or None where no word goes on so, or where it cannot stand there.
+    // The state after a byte, or None where no word goes on so, or where it cannot be there.
     fn step(self, alloc: Global, bytes: &[u8], byte: u8) -> Result<Option<Scan>, Memory>
         requires small { self.taken < 2 ^ 63 }
         requires there { BytesStandAt bytes.now self.taken (begun_bytes (lex_of self.lexer) ++ byte ∷ []) }

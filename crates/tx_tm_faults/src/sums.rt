@@ -162,7 +162,7 @@ fn first_stage_of(part: PartSums) -> Stage
     }
 }
 
-// Of the paragraphs that have ended before a part behind the run.
+// Of the paragraphs that have ended before a part after the run.
 fn ended_sums(run: Option<White>, full: Sums, now: LineSums) -> Sums
     requires { IsSmallCount (most_of full + most_in_line now) }
     ensures { result ≡ ended_sums run full now }
@@ -173,7 +173,7 @@ fn ended_sums(run: Option<White>, full: Sums, now: LineSums) -> Sums
     }
 }
 
-// What that part goes on with.
+// Of the line that this part continues.
 fn resumed_line(run: Option<White>, now: LineSums) -> LineSums
     requires { IsSmallCount (most_in_line now + of_run run) }
     ensures { result ≡ resumed_line run now }
@@ -286,7 +286,7 @@ pub(crate) fn body_sums(here: ContentSums) -> Sums
     }
 }
 
-// Of a long tag with one block, behind these children.
+// Of a long tag with one block, after these children.
 pub(crate) fn long_sums(children: Sums, here: ContentSums) -> PartSums
     requires { IsSmallCount (most_of children + most_in_content here) }
     ensures { result ≡ long_sums children here }
@@ -310,7 +310,7 @@ fn body_behind(collects: bool, children: Sums) -> ContentSums
     }
 }
 
-// Of what stands open next of a tag with these children.
+// Of what is open next of a tag with these children.
 pub(crate) fn opening_sums(inner: Option<TagPlace>, collects: bool, children: Sums) -> ContentSums
     ensures { result ≡ opening_sums inner collects children }
 {

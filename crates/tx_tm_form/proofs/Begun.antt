@@ -1,4 +1,4 @@
--- Bytes that are whole tokens, and behind them one that has begun.
+-- Bytes that are whole tokens, and after them one that has begun.
 use Rattle.std.proofs.Common.{◌≡◌, ℕ, ◌+◌, ◌≤◌, true, List, [], ◌∷◌, ◌++◌, length, refl, sym, ap, subst, ◌∙◌}
 use Rattle.std.proofs.Common.{append_assoc, length-append, arith}
 use Rattle.std.specs.List.{AllByRecursion, flat_map}
@@ -53,7 +53,7 @@ module _ (S : Type 0) (fd : S → Token → S) where
   run_behind [] y w = refl
   run_behind (b ∷ x) y w = run_behind x y (step fd w b)
 
-  -- the state behind such bytes
+  -- the state after such bytes
   pub scanned_run : (x : List ℕ) (ts : List Token) (q : Lex) (s : S) → IsScanned x ts q
       → run fd (at ready s) x ≡ at q (folds S fd s ts)
   scanned_run x ts q s h =

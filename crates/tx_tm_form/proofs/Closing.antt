@@ -35,9 +35,9 @@ use Rattle.tx_tm_form.proofs.Taken.{Scanned, run_scanned, kept_tokens, read_is_s
 use Rattle.tx_tm_form.proofs.Stops.{keeping, run_append, front_goes_on}
 use Rattle.tx_tm_form.proofs.Formed.{is_same_number}
 
--- ---- what stands open
+-- ---- what is open
 
--- the labels of the open tags are labels, and round them stands a block
+-- the labels of the open tags are labels, and round them is a block
 abbrev pub IsPlaced : Content → List Open → Type 0
 IsPlaced here [] = place_of here ≡ None
 IsPlaced here (f ∷ fs) = IsLabel f.label × IsPlaced f.before fs
@@ -70,7 +70,7 @@ put_placed (f ∷ fs) here p h = h
 
 -- ---- the open tags
 
--- a tree is read behind bytes more
+-- after more bytes a tree is read
 abbrev pub Closable : Bytewise Keeping → Type 0
 Closable w = (y : List ℕ) × AreBytes y × (u : WideTree) × (tree_in (run keep w y) ≡ Some u)
 

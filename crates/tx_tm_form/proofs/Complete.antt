@@ -59,7 +59,7 @@ child_before l ks t us ps vs =
     no_before_first (same_bytes l collection_label) (none (ks ++ t ∷ us)) (none vs) (has_no_items ps) _ _
     (some_child ks t us)
 
--- nor is one with a child behind it
+-- nor is one with a child after it
 pub child_behind : (l : List ℕ) (ks : List WideTree) (ps : List ContentPart) (us : List WideTree) (t : WideTree)
     (vs : List WideTree)
     → long_tag l ks ps (us ++ t ∷ vs) ≡ tag false (node l (forest (ks ++ block ps ∷ (us ++ t ∷ vs))))
@@ -136,7 +136,7 @@ read_raw ds here fs y h =
 
 -- ---- the tags
 
--- behind the last argument of a beginning or an end
+-- the state after the last argument of a beginning or an end
 abbrev pub after_arguments : TagPlace → Open → List Open → State
 after_arguments InShort f fs = closed f fs
 after_arguments InHeader f fs = in_tag None f fs
@@ -212,7 +212,7 @@ last_step ps f fs =
 pub regrouped : (a b c y : List Token) → (a ++ (b ++ c)) ++ y ≡ a ++ (b ++ (c ++ y))
 regrouped a b c y = simp append_assoc refl
 
--- an argument and those behind it
+-- an argument and those after it
 arguments_from : (x : Pieces) (xs : Arguments) (p : TagPlace) (f : Open) (fs : List Open) (y : List Token)
     → feeds (in_tag (Some p) f fs) (tokens_of x ++ (more_arguments xs ++ y))
     ≡ feeds (at_argument p (piece_parts x) f fs)
@@ -237,7 +237,7 @@ Begins s form p f fs =
     (feed s (head form f.label true) ≡ in_tag (Some p) f fs)
     × (feed s (head form f.label false) ≡ after_arguments p f fs)
 
--- what the end of a long tag does behind any block
+-- what the end of a long tag does after any block
 abbrev Ends : Arguments → Content → List ℕ → List Open → List Token → Type 0
 Ends xs before l fs y =
     (ps : List ContentPart) (ks : List WideTree)
@@ -277,7 +277,7 @@ mutual
       ∙ read_piece p here fs (tokens_of ps ++ y)
       ∙ read_pieces ps (put_part here (piece_part p)) fs y
 
-  -- the arguments behind one that has been read
+  -- the arguments after one that has been read
   read_more : (xs : Arguments) (p : TagPlace) (ps : List ContentPart) (f : Open) (fs : List Open) (y : List Token)
       → feeds (at_argument p ps f fs) (more_arguments xs ++ y) ≡ feeds
       (after_arguments p (with_children f (content ps ∷ argument_trees xs)) fs) y

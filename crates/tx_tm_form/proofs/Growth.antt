@@ -237,7 +237,7 @@ block_ends (g ∷ f) q c r =
     ∙ ap document (sym (map-append content (g ∷ f) ((q ∷ c) ∷ [])))
     ∙ sym (several f g (q ∷ c))
 
--- what is left to show of a solid part behind a run: either the paragraph goes on, or the next one begins
+-- what is left to show of a solid part after a run: either the paragraph goes on, or the next one begins
 behind_part : (ps : List ContentPart) (f : List (List ContentPart)) (q : ContentPart) (c : List ContentPart)
     (p : ContentPart) (w : White)
     → ((d : List ContentPart) → tree_of_block (widens (block_with f q (c ++ (d ++ p ∷ [])) None) ps) ≡ tree_of_document
@@ -267,7 +267,7 @@ behind_part ps f q c p Line h k =
     ∙ sym (joined_first ((q ∷ c) ++ gap Line ∷ []) p (following None ps))
     ∙ sym (joined_first (q ∷ c) (gap Line) (into_first p (following None ps))))
 
--- behind no run
+-- after no run
 beside_part : (ps : List ContentPart) (f : List (List ContentPart)) (q : ContentPart) (c : List ContentPart)
     (p : ContentPart) → is_solid p ≡ true
     → tree_of_block (widens (block_with f q (c ++ p ∷ []) None) ps) ≡ tree_of_document

@@ -130,7 +130,7 @@ end_there Middle l more i place ms h = ap (λ o. standing_goes_on ready o) (midd
 end_there Closing l true i place ms h = ap (λ o. standing_goes_on ready o) (closing_step place i l ms)
 end_there Closing l false i place ms h = ap (λ o. standing_goes_on ready o) (last_step place i l ms)
 
--- behind the whole of it
+-- after the whole of it
 end_goes_on : (form : TagForm) (l : List ℕ) (more : Bool) (place : ℕ) (ms : List TagMark) (m : Marked)
     → IsRepeated (labelled form l) → m.now ≡ in_block place l ms → IsLabel l
     → marks_go_on (step keep_marks (at (labelled form l) m) (label_end more)) ≡ true

@@ -53,7 +53,7 @@ abbrev now_of : Bytewise Marked → Option Standing
 now_of (at q m) = m.now
 now_of lost = None
 
--- it is told by the bytes
+-- the place follows from the bytes
 tag_at : (x : List ℕ) (place : ℕ) → goes_on (run keep start x) ≡ true → IsOpenTag x place
     → place ≡ first_of (now_of (run keep_marks start_marks x))
 tag_at x place on h =
@@ -68,7 +68,7 @@ tag_at x place on h =
 
 -- ---- one kind
 
--- where both are told by a value
+-- where both are one value
 both_told : (f g v : ReadFault) → f ≡ v → g ≡ v → f ≡ g
 both_told f g v h k = h ∙ sym k
 
@@ -134,7 +134,7 @@ sorts_once bytes f g (placed h) (placed k) = place_once bytes f g h.0 k.0 h.1 k.
 pub one_fault : (bytes : List ℕ) (f g : ReadFault) → IsTmFault bytes f → IsTmFault bytes g → f ≡ g
 one_fault bytes f g h k = sorts_once bytes f g (sort_of bytes f h) (sort_of bytes g k)
 
--- ---- the fault that the machine tells
+-- ---- the fault that the machine finds
 
 abbrev pub Tells : List ℕ → Option ReadFault → Type 0
 Tells bytes None = SpellsSome Spells bytes

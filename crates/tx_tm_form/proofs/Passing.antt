@@ -1,4 +1,4 @@
--- Whole pieces leave the marks as they are, and behind the beginning of a long tag stands its mark.
+-- Whole pieces leave the marks as they are, and the beginning of a long tag puts its mark first.
 use Rattle.std.proofs.Common.{◌≡◌, ℕ, suc, ◌+◌, ◌≤◌, ◌<◌, Bool, true, false, ◌==◌, ◌||◌, nat_le, if◌then◌else◌, List}
 use Rattle.std.proofs.Common.{[], ◌∷◌, ◌++◌, length, map, Option, Some, None, refl, sym, ap, subst, ◌∙◌, append_assoc}
 use Rattle.std.proofs.Common.{length-append, arith}
@@ -32,7 +32,7 @@ marked i j s = record { taken = i; behind_join = j; now = s }
 abbrev pub marks_fold : Marked → List Token → Marked
 marks_fold = folds Marked keep_marks
 
--- with such tokens next, joins aside, the machine comes from s to z
+-- with such tokens next, joins aside, the machine goes from s to z
 abbrev pub Passes : Option Standing → Option Standing → List Token → Type 0
 Passes s z ts =
     (vs y : List Token) (i : ℕ) (j : Bool) → without_joins j vs ≡ ts ++ y
@@ -77,7 +77,7 @@ one_token (v ∷ vs) y t s i j e =
       )
     ] e
 
--- a token, and then others, wherever it stands
+-- a token, and then others, wherever it is
 then_pass : (s w : Option Standing) (t : Token) (b : List Token) → ((n : ℕ) → Passes (feed_standing n s t) w b)
     → Passes s w (t ∷ b)
 then_pass s w t b h vs y i j e =
@@ -136,7 +136,7 @@ digits_pass (b ∷ ds) ms h =
 
 -- ---- tags
 
--- behind the last argument of a beginning or an end
+-- the marks after the last argument of a beginning or an end
 abbrev behind_last : TagPlace → ℕ → List ℕ → List TagMark → List TagMark
 behind_last InShort n l ms = ms
 behind_last InHeader n l ms = new_mark n l None ∷ ms
@@ -255,7 +255,7 @@ mutual
 
 -- ---- the mark of an open long tag
 
--- the tokens behind its beginning
+-- the tokens after its beginning
 behind_head : (xs : Arguments) (l : List ℕ) (more : Bool) (n : ℕ) (ms : List TagMark) (x y : List Token)
     → head Long l more ∷ x ≡ tag_beginning Long l xs ++ y
     → (z : List Token) × (x ≡ z ++ y) × Passes (standing_in Parts (new_mark n l (header_place more) ∷ ms))
@@ -328,7 +328,7 @@ fold_append : (a b : List Token) (m : Marked) → marks_fold m (a ++ b) ≡ mark
 fold_append [] b m = refl
 fold_append (t ∷ a) b m = fold_append a b (keep_marks m t)
 
--- from where a long tag of this label begins to where its block stands open
+-- from where a long tag of this label begins to where its block is open
 abbrev pub Opens : ℕ → List ℕ → Option Standing → Type 0
 Opens place l o = (ms : List TagMark) × (o ≡ standing_in Parts (new_mark place l None ∷ ms))
 
@@ -369,7 +369,7 @@ block_opens (Some z) place j label more behind xs y e k s r = opens z.inside r
               (dropped_now q.0 q.1 q.2 (in_block place label z.marks) q.3),
         )
 
--- where a block of a long tag stands open, the first mark is that of the tag
+-- where a block of a long tag is open, the first mark is that of the tag
 pub block_mark : (ts : List Token) (place : ℕ) (s : Standing) (h : IsInBlock ts place)
     → (marks_fold (marked 0 false (standing_in Parts [])) ts).now ≡ Some s → Opens place h.label (Some s)
 block_mark ts place s h e =

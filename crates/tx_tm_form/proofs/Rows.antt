@@ -1,4 +1,4 @@
--- The byte at which the machine with marks stops is the fault that it tells.
+-- The byte at which the machine with marks stops is the fault that it finds.
 use Rattle.std.proofs.Common.{◌≡◌, ◌⊎◌, inl, inr, ℕ, Bool, true, false, ◌==◌, ◌||◌, if◌then◌else◌, List, refl, sym, ap}
 use Rattle.std.proofs.Common.{subst}
 use Rattle.std.proofs.lemmas.Bool.{and_parts}

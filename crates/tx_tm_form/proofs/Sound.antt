@@ -59,7 +59,7 @@ parts_more (piece q c) p = ap (λ z. piece_part q ∷ z) (parts_more c p)
 abbrev pub child_of : Pieces → WideTree
 child_of c = content (piece_parts c)
 
--- arguments that have ended, each with the | behind it
+-- arguments that have ended, each with the | after it
 abbrev pub with_bars : List Pieces → List Token
 with_bars [] = []
 with_bars (x ∷ xs) = tokens_of x ++ bar ∷ with_bars xs
@@ -91,7 +91,7 @@ bars_more (x ∷ xs) c =
     ap (λ z. tokens_of x ++ bar ∷ z) (bars_more xs c)
     ∙ sym (append_assoc (tokens_of x) (bar ∷ with_bars xs) (tokens_of c ++ bar ∷ []))
 
--- a block that has ended, with the arguments of the middle tag behind it
+-- a block that has ended, with the arguments of the middle tag after it
 pub record Ended : Type 0 where
   pub body : Pieces
   pub behind : Arguments
@@ -159,7 +159,7 @@ abbrev pub ArgumentFrame : TagForm → List ℕ → List WideTree → List Token
 ArgumentFrame form l ks q =
     (xs : List Pieces) × IsLabel l × (ks ≡ map child_of xs) × (q ≡ head form l true ∷ with_bars xs)
 
--- .. where that stands behind a block
+-- .. where that is after a block
 abbrev pub BehindFrame : TagForm → List ℕ → List WideTree → List Token → Type 0
 BehindFrame form l ks q =
     (us : List WideTree) × (r : List Token) × (c : Pieces) × (xs : List Pieces) × BlockFrame l us r
@@ -214,7 +214,7 @@ into_tag : (w : Option TagPlace) (f : Open) (fs : List Open) (u q ts : List Toke
     → Frame w f.label f.children q → ts ≡ u ++ q → Took (in_tag w f fs) ts
 into_tag w f fs u q ts h k e = (w, u, q, nothing, h, k, refl, rw (e, append-nil q) refl)
 
--- where the content stands
+-- where the content is
 pub place_there : (w : Option TagPlace) (l : List ℕ) (ks : List WideTree) → place_of (opened_content w l ks) ≡ w
 place_there (Some p) l ks = refl
 place_there None l ks = no_place l ks
@@ -267,7 +267,7 @@ behind_bar form l ks q c t h e = (
   rw (h.6, bars_more h.3 c) (simp append_assoc refl),
 )
 
--- blocks with one more, behind a middle tag
+-- blocks with one more, after a middle tag
 one_block_more : (l : List ℕ) (ks : List WideTree) (q : List Token) (c : Pieces) (xs : Arguments) (us : List WideTree)
     (r : List Token) → BlockFrame l ks q
     → us ≡ ks ++ block (piece_parts c) ∷ argument_trees xs → r ≡ q ++ (tokens_of c ++ tag_beginning Middle l xs)

@@ -1,4 +1,4 @@
--- What stands open behind bytes that the machine has taken, by their tokens.
+-- What is open after bytes that the machine has taken, by their tokens.
 use Rattle.std.proofs.Common.{◌≡◌, ℕ, Bool, true, false, ◌==◌, ◌||◌, ◌&&◌, nat_lt, if◌then◌else◌, List, [], ◌∷◌, ◌++◌}
 use Rattle.std.proofs.Common.{length, map, Option, Some, None, refl, sym, ap, subst, ◌∙◌, append_assoc}
 use Rattle.std.specs.List.{flat_map}
@@ -111,7 +111,7 @@ first_head : (xs : Arguments) (l : List ℕ) → (more : Bool) × (r : List Toke
 first_head no_argument l = (false, [], refl)
 first_head (argument x xs) l = (true, tokens_of x ++ more_arguments xs, refl)
 
--- the tokens before and behind a kept beginning of a tag
+-- the tokens before and after a kept beginning of a tag
 split_head : (ts u v : List Token) (form : TagForm) (l : List ℕ) (more j : Bool)
     → without_joins j ts ≡ u ++ head form l more ∷ v
     → (before : List Token) × (behind : List Token) × (ts ≡ before ++ head form l more ∷ behind)
@@ -182,7 +182,7 @@ no_block_there : (w : Option TagPlace) (l : List ℕ) (m : TagMark) → begins_m
 no_block_there None l m e = refl
 no_block_there (Some p) l m e = absurd cc
 
--- the first mark is that of the tag whose block stands open
+-- the first mark is that of the tag whose block is open
 abbrev pub HasTag : List Token → List TagMark → Type 0
 HasTag ts ms = (m : TagMark) × (rest : List TagMark) × (ms ≡ m ∷ rest) × IsInBlock ts m.at
 

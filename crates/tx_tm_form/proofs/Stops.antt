@@ -200,7 +200,7 @@ pub run_append : (x y : List ℕ) (w : Bytewise Keeping) → run keep w (x ++ y)
 run_append [] y w = refl
 run_append (b ∷ x) y w = run_append x y (step keep w b)
 
--- the machine goes on behind what can be continued to bytes that spell a tree
+-- the machine goes on after what can be continued to bytes that spell a tree
 pub front_goes_on : (x more : List ℕ) (t : WideTree) → Spells (x ++ more) t → goes_on (run keep start x) ≡ true
 unfolding reads
 front_goes_on x more t h =

@@ -54,11 +54,11 @@ abbrev pub escaped_bytes : Escaped → List ℕ
 escaped_bytes Mark = []
 escaped_bytes (Byte b) = b ∷ []
 
--- < and > behind a backslash are the ends of a symbol
+-- < and > after a backslash are the ends of a symbol
 abbrev pub is_angle : ℕ → Bool
 is_angle b = b == 60 || b == 62
 
--- a byte that may stand behind a backslash, joins aside
+-- a byte that may be after a backslash, joins aside
 abbrev pub can_escape : ℕ → Bool
 can_escape b = is_some (escape_of b) || is_angle b
 

@@ -1,4 +1,4 @@
--- Why bytes spell no tree within the limits in the TM syntax: what stands open behind the first bytes, and the table by
+-- Why bytes spell no tree within the limits in the TM syntax: what is open after the first bytes, and the table by
 -- which the next byte is a fault.
 use Rattle.std.specs.Prelude.{◌≡◌, ◌⊎◌, ℕ, ◌≤◌, Bool, true, false, ◌==◌, ◌||◌}
 use Rattle.std.specs.Prelude.{List, [], ◌∷◌, ◌++◌, length, take, get_or, map}
@@ -35,21 +35,21 @@ abbrev pub IsBegun : Lex → Type 0
 IsBegun (labelled form label) = BeginsLabel label × HasByte form label
 IsBegun _ = Unit {0}
 
--- the bytes are whole tokens, and behind them one that has begun so
+-- the bytes are whole tokens, and after them one that has begun so
 pub record IsScanned (bytes : List ℕ) (tokens : List Token) (q : Lex) : Type 0 where
   pub each : AllByRecursion IsToken tokens
   pub begun : IsBegun q
   pub all : bytes ≡ flat_map written tokens ++ begun_bytes q
 
--- ---- what stands open behind whole tokens
+-- ---- what is open after whole tokens
 
 -- a symbol: `\<`, and the bytes of its name so far
 abbrev pub IsInSymbol : List Token → Type 0
 IsInSymbol tokens =
     (before : List Token) × (name : List ℕ) × (without_joins false tokens ≡ before ++ escape 60 ∷ map name_token name)
 
--- A block of the long tag whose < is at this place: from there on stand its beginning, its blocks with the middle tags
--- between them, and nothing of its end.
+-- A block of the long tag whose < is at this place is open. From there on are its beginning, and its blocks with the
+-- middle tags between them, and nothing of its end.
 pub record IsInBlock (tokens : List Token) (place : ℕ) : Type 0 where
   pub before : List Token
   pub behind : List Token
@@ -70,7 +70,7 @@ abbrev pub IsInRepeated : List ℕ → List Token → Type 0
 IsInRepeated bytes tokens = (label : List ℕ)
     × (IsScanned bytes tokens (labelled Middle label) ⊎ IsScanned bytes tokens (labelled Closing label))
 
--- In another label, or behind all its bytes. The byte that ends a label of one byte at least can always be taken there.
+-- In another label, or after all its bytes. The byte that ends a label of one byte at least can always be taken there.
 abbrev pub IsInLabel : List ℕ → Type 0
 IsInLabel bytes = (tokens : List Token) × (label : List ℕ)
     × (IsScanned bytes tokens (labelled Short label) ⊎ IsScanned bytes tokens (labelled Long label))
@@ -79,11 +79,11 @@ IsInLabel bytes = (tokens : List Token) × (label : List ℕ)
 abbrev pub IsNoForm : List ℕ → ℕ → Type 0
 IsNoForm bytes b = (tokens : List Token) × IsScanned bytes tokens angled × ((b == 124 || b == 47) ≡ false)
 
--- behind a backslash outside symbols
+-- after a backslash outside symbols
 abbrev pub IsEscapeOpen : List ℕ → Type 0
 IsEscapeOpen bytes = (tokens : List Token) × IsScanned bytes tokens slashed × (IsInSymbol tokens → ⊥)
 
--- behind a backslash and byte 13
+-- after a backslash and byte 13
 abbrev pub IsJoinOpen : List ℕ → Type 0
 IsJoinOpen bytes = (tokens : List Token) × IsScanned bytes tokens returned
 
@@ -91,11 +91,11 @@ IsJoinOpen bytes = (tokens : List Token) × IsScanned bytes tokens returned
 abbrev pub IsSymbolOpen : List ℕ → Type 0
 IsSymbolOpen bytes = (tokens : List Token) × (q : Lex) × IsScanned bytes tokens q × IsInSymbol tokens
 
--- the open tag of this place, in whose middle or closing tag the byte stands
+-- the open tag of this place, in whose middle or closing tag the byte is
 abbrev pub IsOpenTag : List ℕ → ℕ → Type 0
 IsOpenTag bytes place = (tokens : List Token) × IsInRepeated bytes tokens × IsInBlock tokens place
 
--- The byte b at place n, behind these bytes, which are the longest front. In the label of a middle or closing tag it
+-- The byte b at place n, after these bytes, which are the longest front. In the label of a middle or closing tag it
 -- differs from that of the open tag, since nothing longer is a front: `mismatched_labels_differ` of src/laws.rt.
 abbrev pub IsByteFault : List ℕ → ℕ → ℕ → ReadFault → Type 0
 IsByteFault front b n fault =
@@ -115,8 +115,8 @@ IsTmFault = IsFault Spells IsKind
 
 -- ---- labels that differ
 
--- These bytes are the first of the label, or all, and the byte behind them isn't the next one: another one of the
--- label, or behind all of it one that ends a label.
+-- These bytes are the first of the label, or all, and the byte after them isn't the next one. It is another one of the
+-- label, or, after all of it, one that ends a label.
 abbrev pub Differs : List ℕ → List ℕ → ℕ → Type 0
 Differs label bytes b = (begins bytes label ≡ true)
     × ((more : Bool) → begins (bytes ++ b ∷ []) (label ++ label_end more ∷ []) ≡ false)

@@ -33,19 +33,19 @@ mutual
     nothing : Pieces
     piece : (first : Piece) → (others : Pieces) → Pieces
 
-  -- content behind | each
+  -- content after | each
   pub data Arguments : Type 0 where
     no_argument : Arguments
     argument : (first : Pieces) → (others : Arguments) → Arguments
 
-  -- middle tags, a block behind each
+  -- middle tags, a block after each
   pub data Blocks : Type 0 where
     no_block : Blocks
     middle_tag : (arguments : Arguments) (block : Pieces) → (others : Blocks) → Blocks
 
 -- ---- how they are written
 
--- in a symbol, | and \ stand behind a backslash
+-- in a symbol, | and \ are after a backslash
 abbrev pub name_token : ℕ → Token
 name_token b = if b == 124 || b == 92 then escape b else plain b
 

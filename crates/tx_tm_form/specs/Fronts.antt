@@ -44,7 +44,7 @@ abbrev pub goes_on : Bytewise Keeping → Bool
 goes_on (at q k) = can_go_on q k.state
 goes_on lost = false
 
--- the machine goes on behind the first n bytes, and not behind one byte more
+-- the machine goes on after the first n bytes, and not after one byte more
 pub record StopsAt (bytes : List ℕ) (n : ℕ) : Type 0 where
   pub within : n ≤ length bytes
   pub taken : goes_on (run keep start (take n bytes)) ≡ true

@@ -12,7 +12,7 @@ use Rattle.tx_tm_form.specs.Parts.{document_label, collection_label, same_bytes,
 
 -- ---- an argument, or a paragraph
 
--- the trees so far, the text behind them, and whether a run ends that
+-- the trees so far, the text after them, and whether a run ends that
 pub record Inline : Type 0 where
   pub done : List WideTree
   pub bytes : List ℕ
@@ -31,7 +31,7 @@ grown g = concat_of (g.done ++ leaf_before g.bytes [])
 
 -- ---- a block
 
--- the paragraphs that have ended, the one that stands open, and the run behind it
+-- the paragraphs that have ended, the one that is open, and the run after it
 pub record Block : Type 0 where
   pub full : List WideTree
   pub now : Inline
@@ -49,12 +49,12 @@ abbrev pub with_white : Stage → Block → White → Block
 with_white Empty b w = b
 with_white s b w = record { full = b.full; now = b.now; run = Some (longer b.run w); stage = b.stage }
 
--- the paragraphs that have ended before a part that stands behind a run
+-- the paragraphs that have ended before a part that is after a run
 abbrev pub ended : Option White → List WideTree → Inline → List WideTree
 ended (Some Break) full now = full ++ grown now ∷ []
 ended r full now = full
 
--- what that part goes on with
+-- what that part continues
 abbrev pub resumed : Option White → Inline → Inline
 resumed None now = now
 resumed (Some Break) now = no_parts
@@ -109,7 +109,7 @@ abbrev pub with_entries : Block → List CollectionEntry → Block
 with_entries b [] = b
 with_entries b (e ∷ es) = with_entries (widen (behind_run b e.before) (tag e.collects e.tree)) es
 
--- the same as an ordinary block
+-- the tags as an ordinary block
 abbrev pub as_block : Tags → Block
 as_block x = behind_run (with_entries no_paragraphs x.entries) x.run
 

@@ -51,7 +51,7 @@ in_tag p f fs = reading (opened_content p f.label f.children) (f ∷ fs)
 abbrev pub with_node : List ℕ → List WideTree → Content → List Open → State
 with_node label children before fs = reading (put_part before (tag false (node label (forest children)))) fs
 
--- behind | in an argument
+-- after | in an argument
 abbrev pub next_argument : Option TagPlace → Content → List Open → State
 next_argument (Some p) here (f ∷ fs) = in_tag (Some p) (open_with_child f (tree_as_argument here)) fs
 next_argument _ here fs = failed
@@ -59,19 +59,19 @@ next_argument _ here fs = failed
 abbrev pub closed : Open → List Open → State
 closed f fs = with_node f.label f.children f.before fs
 
--- behind > in an argument
+-- after > in an argument
 abbrev pub last_argument : Option TagPlace → Content → List Open → State
 last_argument (Some InHeader) here (f ∷ fs) = in_tag None (open_with_child f (tree_as_argument here)) fs
 last_argument (Some p) here (f ∷ fs) = closed (open_with_child f (tree_as_argument here)) fs
 last_argument _ here fs = failed
 
--- behind a block, where a middle or closing tag goes on
+-- after a block, where a middle or closing tag goes on
 abbrev pub next_block : Option TagPlace → List ℕ → Option TagPlace → Content → List Open → State
 next_block None label p here (f ∷ fs) =
     go (same_bytes label f.label) (in_tag p (open_with_child f (tree_as_block here)) fs)
 next_block _ label p here fs = failed
 
--- behind a block, where a closing tag without arguments stands
+-- after a block, where there is a closing tag without arguments
 abbrev pub last_block : Option TagPlace → List ℕ → Content → List Open → State
 last_block None label here (f ∷ fs) =
     go (same_bytes label f.label) (reading (put_part f.before (long_of f.label f.children here)) fs)
@@ -210,7 +210,7 @@ run fd s (b ∷ bs) = run fd (step fd s b) bs
 
 -- ---- both
 
--- a state, and whether a join and but spaces and tabs stand before
+-- a state, and whether a join, and then only spaces and tabs, are before it
 pub record Keeping : Type 0 where
   pub behind_join : Bool
   pub state : State

@@ -20,7 +20,7 @@ use Rattle.tx_tm_form.specs.Machine.{header_place, Lex, ready, slashed, returned
 use Rattle.tx_tm_form.specs.Machine.{angled, labelled, Bytewise, at, lost, step}
 use Rattle.tx_tm_form.specs.Fronts.{begins}
 
--- where a byte stands, and the open tags round it, the innermost first
+-- where a byte is, and the open tags round it, the innermost first
 pub record Standing : Type 0 where
   pub inside : Inside
   pub marks : List TagMark
@@ -38,23 +38,23 @@ abbrev pub if_marked : Bool → Inside → List TagMark → Option Standing
 if_marked true inside ms = standing_in inside ms
 if_marked false inside ms = None
 
--- behind | in an argument
+-- after | in an argument
 abbrev pub mark_bar : Option TagPlace → List TagMark → Option Standing
 mark_bar (Some p) ms = standing_in Parts ms
 mark_bar None ms = None
 
--- behind > in an argument of the first tag
+-- after > in an argument of the first tag
 abbrev pub mark_close : Option TagPlace → TagMark → List TagMark → Option Standing
 mark_close (Some InHeader) m ms = standing_in Parts (with_inner None m ∷ ms)
 mark_close (Some p) m ms = standing_in Parts ms
 mark_close None m ms = None
 
--- behind a block of the first tag, where a middle or closing tag goes on
+-- after a block of the first tag, where a middle or closing tag goes on
 abbrev pub mark_next : Option TagPlace → List ℕ → Option TagPlace → TagMark → List TagMark → Option Standing
 mark_next None label p m ms = if_marked (same_bytes label m.label) Parts (with_inner p m ∷ ms)
 mark_next (Some w) label p m ms = None
 
--- behind a block of the first tag, where a closing tag without arguments stands
+-- after a block of the first tag, where there is a closing tag without arguments
 abbrev pub mark_last : Option TagPlace → List ℕ → TagMark → List TagMark → Option Standing
 mark_last None label m ms = if_marked (same_bytes label m.label) Parts ms
 mark_last (Some w) label m ms = None
@@ -75,7 +75,7 @@ abbrev pub last_marks : List ℕ → List TagMark → Option Standing
 last_marks label [] = None
 last_marks label (m ∷ ms) = mark_last m.inner label m ms
 
--- behind the beginning of a tag, whose < is at place n
+-- after the beginning of a tag, whose < is at place n
 abbrev pub begun_marks : ℕ → TagForm → Bool → List ℕ → List TagMark → Option Standing
 begun_marks n Short true label ms = standing_in Parts (new_mark n label (Some InShort) ∷ ms)
 begun_marks n Short false label ms = standing_in Parts ms
@@ -112,7 +112,7 @@ digit_marks ms (plain b) = if_marked (is_digit b) Digits ms
 digit_marks ms close = standing_in Parts ms
 digit_marks ms _ = None
 
--- behind a token at place n, or None where it cannot stand
+-- after a token at place n, or None where it can't be
 abbrev pub feed_marks : ℕ → Inside → List TagMark → Token → Option Standing
 feed_marks n Parts ms t = part_marks n ms t
 feed_marks n (Symbol length) ms t = symbol_marks length ms t
@@ -122,8 +122,8 @@ abbrev pub feed_standing : ℕ → Option Standing → Token → Option Standing
 feed_standing n None t = None
 feed_standing n (Some s) t = feed_marks n s.inside s.marks t
 
--- how many bytes have been read as tokens, whether a join and but spaces and tabs stand last, and where the next byte
--- stands
+-- how many bytes have been read as tokens, whether the last ones are a join and then only spaces and tabs, and where
+-- the next byte is
 pub record Marked : Type 0 where
   pub taken : ℕ
   pub behind_join : Bool
@@ -146,7 +146,7 @@ abbrev pub is_symbol : Inside → Bool
 is_symbol (Symbol length) = true
 is_symbol _ = false
 
--- the label of a middle or closing tag goes on to that of the first tag, of which a block stands open
+-- the label of a middle or closing tag goes on to that of the first tag, of which a block is open
 abbrev pub begins_mark : Option TagPlace → List ℕ → TagMark → Bool
 begins_mark None label m = begins label m.label
 begins_mark (Some p) label m = false
@@ -161,7 +161,7 @@ form_goes_on Long label ms = true
 form_goes_on Middle label ms = begins_marks label ms
 form_goes_on Closing label ms = begins_marks label ms
 
--- a token that has begun can go on to one that may stand there
+-- a token that has begun can go on to one that may be there
 abbrev pub lex_goes_on : Lex → Inside → List TagMark → Bool
 lex_goes_on ready inside ms = true
 lex_goes_on slashed inside ms = true

@@ -258,7 +258,7 @@ keep_gauge k t =
 abbrev pub start_gauge : Bytewise Gauged
 start_gauge = at ready (record { behind_join = false; gauge = gauge_between (Block no_block) [] })
 
--- where the machine stands behind bytes that spell this tree
+-- where the machine is after bytes that spell this tree
 abbrev pub IsMeasured : Bytewise Gauged → WideTree → Type 0
 IsMeasured (at q k) t = body_sums k.gauge.here ≡ sums_of (t ∷ [])
 IsMeasured lost t = ⊥

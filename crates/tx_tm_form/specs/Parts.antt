@@ -30,7 +30,7 @@ abbrev pub leaf_before : List ℕ → List WideTree → List WideTree
 leaf_before [] ts = ts
 leaf_before (b ∷ bytes) ts = leaf (b ∷ bytes) ∷ ts
 
--- The texts and tags, behind the bytes of a text. Items side by side are one text, and each run is one space.
+-- The texts and tags, after the bytes of a text. Items side by side are one text, and each run is one space.
 abbrev pub texts_and_tags : Bool → List ℕ → List ContentPart → List WideTree
 texts_and_tags in_run bytes [] = leaf_before bytes []
 texts_and_tags in_run bytes (gap w ∷ ps) = texts_and_tags true (if in_run then bytes else bytes ++ 32 ∷ []) ps
@@ -84,7 +84,7 @@ parts_by_paragraph [] = []
 parts_by_paragraph (gap w ∷ ps) = separate w (parts_by_paragraph ps)
 parts_by_paragraph (p ∷ ps) = into_first p (parts_by_paragraph ps)
 
--- the collection that stands alone, or a document, in which the empty text stands for no paragraphs
+-- the collection that is alone, or a document, in which the empty text stands for no paragraphs
 abbrev pub tree_of_document : List (List ContentPart) → WideTree
 tree_of_document [] = node document_label (forest (leaf [] ∷ []))
 tree_of_document ((tag true t ∷ []) ∷ []) = t
@@ -115,7 +115,7 @@ abbrev pub none : List WideTree → Bool
 none [] = true
 none (t ∷ ts) = false
 
--- A long tag by its first block and the children before and behind that: a collection tag, or a node with all children.
+-- A long tag by its first block and the children before and after that: a collection tag, or a node with all children.
 unfoldable pub long_tag : List ℕ → List WideTree → List ContentPart → List WideTree → ContentPart
 long_tag label before first behind =
     if same_bytes label collection_label && none before && none behind && has_no_items first

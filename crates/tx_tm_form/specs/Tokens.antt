@@ -18,14 +18,14 @@ pub data Token : Type 0 where
   bar : Token
   close : Token
 
--- what stands between < and a label
+-- what is between < and a label
 abbrev pub form_mark : TagForm → List ℕ
 form_mark Short = []
 form_mark Long = 92 ∷ []
 form_mark Middle = 124 ∷ []
 form_mark Closing = 47 ∷ []
 
--- what stands behind a label
+-- what is after a label
 abbrev pub label_end : Bool → ℕ
 label_end true = 124
 label_end false = 62
@@ -53,7 +53,7 @@ pub record IsTokenList (bytes : List ℕ) (tokens : List Token) : Type 0 where
   pub each : AllByRecursion IsToken tokens
   pub all : bytes ≡ flat_map written tokens
 
--- joins stand for nothing, nor do spaces and tabs behind a join
+-- joins stand for nothing, nor do spaces and tabs after a join
 abbrev pub is_dropped : Bool → Token → Bool
 is_dropped behind_join (join r) = true
 is_dropped behind_join (white b) = behind_join && (b == 32 || b == 9)

@@ -7,7 +7,7 @@ use tx_tree::is_label_byte;
 /// What a byte is to the syntax.
 #[derive(Clone, Copy, Debug, PartialEq, Eq)]
 pub enum ByteKind {
-    /// A byte that may stand in a label.
+    /// A byte that may be in a label.
     Name,
     /// A space or a tab.
     Blank,

@@ -35,8 +35,8 @@ pub fn machine_reads_what_is_spelled()
     ensures sound { (bytes : List ℕ) (t : WideTree) → reads bytes ≡ Some t → Spells bytes t }
 {}
 
-/// Bytes that the machine has taken can be continued to bytes that spell a tree, exactly where it goes on: what stands
-/// open has a closing text, and where it cannot go on, no bytes help.
+/// Bytes that the machine has taken can be continued to bytes that spell a tree, exactly where it goes on: what is open
+/// has a closing text, and where it cannot go on, no bytes help.
 pub fn machine_goes_on_along_fronts()
     ensures closed { (bytes : List ℕ) → goes_on (run keep start bytes) ≡ true
         → (more : List ℕ) × (t : WideTree) × Spells (bytes ++ more) t }
@@ -66,9 +66,9 @@ pub fn bytes_have_one_fault()
         → ((t : WideTree) × Spells bytes t × IsWithinLimits t) ⊎ ((fault : ReadFault) × IsTmFault bytes fault) }
 {}
 
-/// Where bytes have a mismatch, its second place stands in the label of a middle or closing tag, in a block of the long
-/// tag that is open from its first place (`stands`). Up to there this label is as that of the open tag, and the byte
-/// there differs from it (`differs`). So where the middle or closing tag begins with a whole label, that is another one
+/// Where bytes have a mismatch, its second place is in the label of a middle or closing tag, in a block of the long tag
+/// that is open from its first place (`stands`). Up to there this label is as that of the open tag, and the byte there
+/// differs from it (`differs`). So where the middle or closing tag begins with a whole label, that is another one
 /// (`labels`).
 pub fn mismatched_labels_differ()
     ensures stands { (bytes : List ℕ) (place n : ℕ) → IsTmFault bytes (ReadFault.Mismatch place n)
@@ -83,7 +83,7 @@ pub fn mismatched_labels_differ()
         → other ≢ tag.label }
 {}
 
-/// The machine with marks tells the fault of bytes that spell no tree, and tells none where they spell one.
+/// The machine with marks finds the fault of bytes that spell no tree, and none where they spell one.
 pub fn marks_tell_the_fault()
     ensures fault { (bytes : List ℕ) (fault : ReadFault) → fault_of bytes ≡ Some fault → IsTmFault bytes fault }
     ensures tree { (bytes : List ℕ) → fault_of bytes ≡ None → (t : WideTree) × Spells bytes t }

@@ -1,4 +1,4 @@
-// What stands open round a byte.
+// What is open round a byte.
 
 use crate::places::TagPlace;
 use tx_tree::Label;
@@ -10,16 +10,16 @@ pub struct TagMark {
     pub at: usize,
     /// Its label.
     pub label: Label,
-    /// The argument of it that stands open, or None where a block does.
+    /// The argument of it that is open, or None where a block is.
     pub inner: Option<TagPlace>,
 }
 
-/// In what of the innermost content a byte stands.
+/// In what of the innermost content a byte is.
 #[derive(Clone, Copy, Debug, PartialEq, Eq)]
 pub enum Inside {
     /// Between its parts.
     Parts,
-    /// In a symbol, behind so many bytes of its name.
+    /// In a symbol, after so many bytes of its name.
     Symbol(usize),
     /// In the digits of raw data.
     Digits,

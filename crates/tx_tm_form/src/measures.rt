@@ -23,7 +23,7 @@ pub struct Sums {
 pub struct LineSums {
     /// Of the trees so far.
     pub done: Sums,
-    /// The bytes of the text behind them.
+    /// The bytes of the text after them.
     pub length: u64,
     /// Whether a run ends that text.
     pub in_run: bool,
@@ -34,9 +34,9 @@ pub struct LineSums {
 pub struct BlockSums {
     /// Of the paragraphs that have ended.
     pub full: Sums,
-    /// Of the one that stands open.
+    /// Of the one that is open.
     pub now: LineSums,
-    /// The run behind it.
+    /// The run after it.
     pub run: Option<White>,
     /// What the block holds so far.
     pub stage: Stage,
@@ -75,13 +75,13 @@ pub struct OpenSums {
     pub children: Sums,
 }
 
-/// In what of the innermost content measuring stands.
+/// In what of the innermost content measuring is.
 #[derive(Clone, Copy, Debug, PartialEq, Eq)]
 pub enum Within {
     /// Between its parts.
     Parts,
-    /// In a symbol, behind so many bytes of its name.
+    /// In a symbol, after so many bytes of its name.
     Symbol(u64),
-    /// In raw data, behind so many digits.
+    /// In raw data, after so many digits.
     Digits(u64),
 }

@@ -1,4 +1,4 @@
-// The beginnings of tags, and where content stands.
+// The beginnings of tags, and where content is.
 
 /// How a tag's beginning is written.
 #[derive(Clone, Copy, Debug, PartialEq, Eq)]

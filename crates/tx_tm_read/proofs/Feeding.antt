@@ -1,4 +1,4 @@
--- What the machine feeds on only grows: what fits behind a token fitted before it.
+-- What the machine feeds on only grows: what fits after a token fitted before it.
 use mathlib.Core.Logic.{inl}
 use Rattle.std.proofs.Common.{◌≡◌, ℕ, suc, ◌<◌, ◌≤◌, Bool, true, false, ◌&&◌, ◌||◌, ◌==◌, nat_lt, nat_le, if◌then◌else◌}
 use Rattle.std.proofs.Common.{List, [], ◌∷◌, ◌++◌, length, map, Option, Some, None, sym, subst, length-append, arith}

@@ -23,7 +23,7 @@ use Rattle.tx_tm_words.specs.Runs.{AreWords, one_byte, byte_more, space_and_byte
 use Rattle.tx_tm_read.specs.Spots.{state_of}
 use Rattle.tx_tm_read.proofs.Running.{words_run, head_run, rest_is}
 
--- ---- an argument and the byte behind it
+-- ---- an argument and the byte after it
 
 pub argument_there : (x : List ℕ) (i count b : ℕ) → i + count < length x → get_or x (i + count) 0 ≡ b
     → take (i + count + 1) x ≡ take i x ++ (take count (drop i x) ++ b ∷ [])

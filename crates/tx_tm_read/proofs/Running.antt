@@ -168,7 +168,7 @@ unfolding reads
 read_over None w all e h = λ t i j. h t (ap tree_in e ∙ i) j
 read_over (Some t) w all e h = sym (ap tree_in e) ∙ h
 
--- ---- the answers of one advance
+-- ---- the results of one advance
 
 pub words_none : (j : Bool) (c : Content) (fs : List Open) (n : ℕ) (rest : List ℕ) → AreWords (take n rest)
     → (StateFits (reading (put_part c (text (take n rest))) fs) → ⊥) → IsAdvance None (reader_between_words j c fs) rest

@@ -1,4 +1,4 @@
--- Where a limit is passed, no tree within the limits comes of the state.
+-- Where a limit is passed, the state leads to no tree within the limits.
 use Rattle.std.proofs.Common.{◌≡◌, ℕ, suc, ◌+◌, ◌<◌, ◌≤◌, Bool, true, false, ◌&&◌, if◌then◌else◌, List, [], ◌∷◌, ◌++◌}
 use Rattle.std.proofs.Common.{length, Option, Some, None, Result, Ok, Err, IfOk, refl, sym, ap, subst, ◌∙◌, arith}
 use Rattle.std.proofs.lemmas.List.{length-reverse, length-map}
@@ -136,7 +136,7 @@ in_tag_nodes (Some p) f fs = omega arith
 in_tag_nodes None f fs =
     omega (arith, block_nodes_behind f.label f.children (content_nodes f.before + opens_nodes f.before fs))
 
--- ---- answers of the steps
+-- ---- results of the steps
 
 pub last_stuck : (p : TagPlace) (g : Inline) (f : Open) (fs : List Open) → (IsWithinLimits (grown g) → ⊥)
     → StateFits (last_argument (Some p) (inline p g) (f ∷ fs)) → ⊥

@@ -1,6 +1,6 @@
 -- Nodes that bytes which have been read pay for, and that haven't been made yet: a byte pays for one. Each open tag has
--- one, each line in which a tag stands one for its concat, and each tag of what may be a collection one for the line
--- that it may stand in.
+-- one, each line with a tag one for its concat, and each tag of what may be a collection one for the line that it may
+-- be in.
 use Rattle.std.specs.Prelude.{ℕ, ◌+◌, ◌≤◌, List, [], ◌∷◌, Option, Some, None}
 use Rattle.tx_tm_content.specs.ContentCredits.{content_credit}
 use Rattle.tx_tm_form.specs.Tokens.{Token, head}

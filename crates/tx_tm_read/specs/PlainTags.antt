@@ -3,7 +3,7 @@ use Rattle.std.specs.Prelude.{◌≡◌, ℕ, ◌<◌, ◌≤◌, List, [], ◌�
 use Rattle.tx_tree.specs.WideTree.{WideTree, leaf}
 use Rattle.tx_tm_words.specs.Runs.{AreWords}
 
--- arguments that are words, each with the bar behind it, and their trees
+-- arguments that are words, each with the bar after it, and their trees
 pub data AreArguments : List ℕ → List WideTree → Type 0 where
   no_argument : AreArguments [] []
   argument_more : (x y : List ℕ) (ts : List WideTree) → AreArguments x ts → AreWords y

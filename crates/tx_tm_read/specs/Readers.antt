@@ -15,7 +15,7 @@ use Rattle.tx_tm_read.specs.Spots.{state_of}
 abbrev pub byte_machine : Reader → Bytewise Keeping
 byte_machine r = at (lex_of r.lexer) (record { behind_join = r.behind_join; state = state_of r.spot })
 
--- this, or else no tree within the limits comes of it
+-- this, or else it leads to no tree within the limits
 abbrev pub IsReader : Option Reader → Bytewise Keeping → Type 0
 IsReader None w = ReaderFits w → ⊥
 IsReader (Some r) w = byte_machine r ≡ w
@@ -24,11 +24,11 @@ abbrev pub ReaderRose : ℕ → ℕ → ℕ → Option Reader → Type 0
 ReaderRose before after nodes None = Unit {0}
 ReaderRose before after nodes (Some r) = after + nodes ≤ before + state_nodes (state_of r.spot)
 
--- between two words, behind a join or not
+-- between two words, after a join or not
 abbrev pub reader_between_words : Bool → Content → List Open → Bytewise Keeping
 reader_between_words j c fs = at ready (record { behind_join = j; state = reading c fs })
 
--- behind so many bytes, or else no tree within the limits comes of some
+-- after so many bytes, or else some of them lead to no tree within the limits
 abbrev pub IsAdvance : Option Advance → Bytewise Keeping → List ℕ → Type 0
 IsAdvance None w bytes = (n : ℕ) × (ReaderFits (run keep w (take n bytes)) → ⊥)
 IsAdvance (Some a) w bytes =

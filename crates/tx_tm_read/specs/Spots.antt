@@ -1,4 +1,4 @@
--- Where the reader stands, as a state of the machine.
+-- The state of the reader, as a state of the machine.
 use Rattle.std.specs.Prelude.{◌≡◌, ◌≤◌, ◌+◌, ℕ, List, map, reverse, Option, Some, None}
 use Rattle.tx_tm_form.specs.Machine as machine
 use Rattle.tx_tm_form.specs.declared.places.TagPlace.{TagPlace}
@@ -29,12 +29,12 @@ state_of (spots.Reading here os) = reading (content_of here) (opens_of os.items)
 state_of (spots.Naming name here os) = naming name (content_of here) (opens_of os.items)
 state_of (spots.Counting digits here os) = counting digits (content_of here) (opens_of os.items)
 
--- behind > in an argument of a tag that has this child, too
+-- after > in an argument of a tag that has this child, too
 abbrev pub behind_argument : TagPlace → Open → List Open → machine.State
 behind_argument InHeader f fs = in_tag None f fs
 behind_argument p f fs = closed f fs
 
--- this state, or else no tree within the limits comes of it
+-- this state, or else it leads to no tree within the limits
 abbrev pub IsState : Option Spot → machine.State → Type 0
 IsState None m = StateFits m → ⊥
 IsState (Some s) m = state_of s ≡ m

@@ -15,7 +15,7 @@ pub(crate) struct Head {
     pub(crate) taken: usize,
 }
 
-// How many bytes at the front may stand in a label.
+// How many bytes at the front may be in a label.
 fn letters_len(bytes: &[u8]) -> usize
     ensures { result ≤ length bytes.now }
 {
@@ -38,7 +38,7 @@ fn ends_head(byte: u8) -> Option<bool>
     }
 }
 
-/// The beginning of a short tag that stands at the front, or None where none does.
+/// The beginning of a short tag at the front, or None where there is none.
 pub(crate) fn head_front(labels: &mut Labels, bytes: &[u8]) -> Result<Option<Head>, Memory>
     ensures there { IfOk result (λ found. IfSome found (λ h. StandsInFront bytes.now h)) }
 {

@@ -8,8 +8,8 @@ use tx_tm_content::{make_leaf, make_room};
 use tx_tm_words::words_len;
 use tx_tree::{MOST_TEXT, Tree};
 
-/// The trees of the arguments of a short tag, and how many bytes these have with `>` behind the last one, where each is
-/// words alone, or None where one isn't.
+/// The trees of the arguments of a short tag, and how many bytes these have with `>` after the last one, where each is
+/// words alone. None where one isn't.
 pub(crate) fn plain_arguments(
     alloc: Global,
     bytes: &[u8],

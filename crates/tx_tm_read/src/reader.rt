@@ -48,7 +48,7 @@ pub(crate) struct Advance {
     taken: usize,
 }
 
-// Behind a word.
+// The state after a word.
 fn behind_word<L: Ledger>(
     labels: &Labels,
     behind_join: bool,
@@ -81,7 +81,7 @@ fn behind_word<L: Ledger>(
     }
 }
 
-// Behind what a byte gave.
+// The state after what a byte gave.
 fn behind_lexed<L: Ledger>(
     labels: &Labels,
     behind_join: bool,
@@ -154,7 +154,7 @@ impl Spot {
     }
 }
 
-// Behind so many bytes at the front, which are words.
+// The state after so many bytes at the front, which are words.
 #[inline(always)]
 fn with_words<L: Ledger>(
     labels: &Labels,
@@ -188,7 +188,7 @@ fn with_words<L: Ledger>(
     }
 }
 
-// Behind so many bytes at the front, which are this run of white.
+// The state after so many bytes at the front, which are this run of white.
 #[inline(always)]
 fn with_white(
     rest: &[u8],
@@ -219,7 +219,7 @@ fn with_white(
     }
 }
 
-// Behind the beginning of a short tag at the front.
+// The state after the beginning of a short tag at the front.
 fn with_head<L: Ledger>(
     labels: &Labels,
     rest: &[u8],
@@ -252,7 +252,8 @@ fn with_head<L: Ledger>(
     }
 }
 
-// Behind a short tag at the front of which these are the children, and which has so many bytes behind its beginning.
+// The state after a short tag at the front of which these are the children, and which has so many bytes after its
+// beginning.
 fn with_plain_tag<L: Ledger>(
     labels: &Labels,
     rest: &[u8],
@@ -293,7 +294,7 @@ fn with_plain_tag<L: Ledger>(
     }
 }
 
-// Behind a short tag at the front whose arguments are words alone, or else behind its beginning.
+// The state after a short tag at the front whose arguments are words alone, or else after its beginning.
 fn with_tag<L: Ledger>(
     labels: &Labels,
     rest: &[u8],
@@ -338,7 +339,7 @@ impl Reader {
         }
     }
 
-    // Behind a byte, or None where no tree within the limits goes on so.
+    // The state after a byte, or None where no tree within the limits goes on so.
     fn step<L: Ledger>(
         self,
         labels: &Labels,
@@ -364,7 +365,7 @@ impl Reader {
         }
     }
 
-    // Behind the first byte.
+    // The state after the first byte.
     fn first<L: Ledger>(
         self,
         labels: &Labels,
@@ -384,7 +385,7 @@ impl Reader {
         }
     }
 
-    // Behind what of the front is taken at once, or else behind the first byte.
+    // The state after what of the front is taken at once, or else after the first byte.
     #[inline(always)]
     fn advance<L: Ledger>(
         self,
@@ -446,7 +447,7 @@ impl Reader {
     }
 }
 
-// Behind a short tag at the front, or its beginning, or else behind the first byte.
+// The state after a short tag at the front, or its beginning, or else after the first byte.
 fn advance_by_head<L: Ledger>(
     labels: &mut Labels,
     behind_join: bool,
@@ -482,7 +483,7 @@ fn advance_by_head<L: Ledger>(
     }
 }
 
-// Behind words, white or the beginning of a short tag at the front, or else behind the first byte.
+// The state after words, white or the beginning of a short tag at the front, or else after the first byte.
 #[inline(always)]
 fn advance_between<L: Ledger>(
     labels: &mut Labels,
@@ -542,7 +543,7 @@ fn read_all<L: Ledger>(
     reader.finish(labels, steps)
 }
 
-// The same, with labels that begin with none of a tag.
+// The tree that the bytes spell, as `read_all` has it, with labels that begin with none of a tag.
 fn read_anew<L: Ledger>(
     alloc: Global,
     bytes: &[u8],
@@ -557,11 +558,11 @@ fn read_anew<L: Ledger>(
     read_all(&mut labels, bytes, steps)
 }
 
-/// The tree that the bytes spell. Whatever it answers, the steps rise by at most one more than the bytes; where it
-/// answers a tree, by at most its nodes that aren't leaves.
+/// The tree that the bytes spell. Whatever it returns, the steps rise by at most one more than the bytes. Where it
+/// returns a tree, they rise by at most its nodes that aren't leaves.
 ///
-/// A fault other than `Memory` comes exactly where the bytes spell no tree within the limits, and is the one that the
-/// table of faults gives (`IsTmFault` of `tx_tm_form`). It is found in one or two passes more, which make no tree.
+/// A fault other than `Memory` is returned exactly where the bytes spell no tree within the limits. It is the one that
+/// the table of faults gives (`IsTmFault` of `tx_tm_form`). It is found in one or two passes more, which make no tree.
 pub fn read<L: Ledger>(alloc: Global, bytes: &[u8], steps: &mut Steps<L>) -> Result<Tree, ReadFault>
     ensures found { IfOk result (λ t. Spells bytes.now t) }
     ensures within { IfOk result IsWithinLimits }

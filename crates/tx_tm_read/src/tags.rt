@@ -1,4 +1,4 @@
-// Open tags, and where the reader stands in them.
+// Open tags, and where the reader is in them.
 ghost use Rattle.std.specs.Prelude.{◌≡◌, ◌==◌, ◌++◌, ◌∷◌, [], true, length, nat_lt, if◌then◌else◌, IfOk};
 ghost use Rattle.tx_tree.specs.Texts.{is_name_byte};
 ghost use Rattle.tx_tm_form.specs.Bytes.{is_digit};
@@ -127,7 +127,7 @@ impl Digits {
     }
 }
 
-/// Where the reader stands: in which content, in which open tags, the innermost last.
+/// Where the reader is: in which content, in which open tags, the innermost last.
 #[derive(Drop)]
 pub(crate) enum Spot {
     /// Between two parts of it.

@@ -48,7 +48,7 @@ fn open_tag(
     in_place(alloc, place, tag, opens)
 }
 
-// Behind a block, where a middle or closing tag of this label goes on at the place.
+// The state after a block, where a middle or closing tag of this label goes on at the place.
 fn go_on<L: Ledger>(
     labels: &Labels,
     label: Label,
@@ -71,7 +71,7 @@ fn go_on<L: Ledger>(
     }
 }
 
-// Behind a block, where a closing tag of this label without arguments stands.
+// The state after a block, where there is a closing tag of this label without arguments.
 fn end_tag<L: Ledger>(
     labels: &Labels,
     label: Label,
@@ -93,7 +93,7 @@ fn end_tag<L: Ledger>(
     }
 }
 
-// Behind the beginning of a tag.
+// The state after the beginning of a tag.
 pub(crate) fn begin<L: Ledger>(
     labels: &Labels,
     form: TagForm,
@@ -130,7 +130,7 @@ pub(crate) fn begin<L: Ledger>(
     }
 }
 
-// Behind `|`.
+// The state after `|`.
 fn take_bar<L: Ledger>(
     labels: &Labels,
     here: Body,
@@ -154,7 +154,7 @@ fn take_bar<L: Ledger>(
     }
 }
 
-// Behind `>`.
+// The state after `>`.
 fn take_close<L: Ledger>(
     labels: &Labels,
     here: Body,
@@ -178,7 +178,7 @@ fn take_close<L: Ledger>(
     }
 }
 
-// Behind a backslash and a byte.
+// The state after a backslash and a byte.
 fn take_escape<L: Ledger>(
     labels: &Labels,
     byte: u8,
@@ -396,7 +396,7 @@ fn take_digit<L: Ledger>(
 }
 
 impl Spot {
-    /// Where the reader stands behind the word, or None where no tree within the limits goes on so.
+    /// The state after the word, or None where no tree within the limits goes on so.
     #[tactic(auto, unfolding(tx_tm_form::specs::Machine::feed))]
     pub(crate) fn take<L: Ledger>(
         self,

@@ -45,7 +45,7 @@ fn in_argument(
     Ok(Some(Spot::Reading(Body::Argument(place, OpenLine::new(alloc)), opens)))
 }
 
-// The content of a block behind these children of a tag.
+// The content of a block after these children of a tag.
 #[tactic(auto, using(crate::proofs::Stuck::start_rules))]
 fn start_block(alloc: Global, label: &Label, children: &Siblings) -> Body
     ensures { content_of result ≡ block_behind label.now children.now }
@@ -87,7 +87,7 @@ pub(crate) fn in_place(
     }
 }
 
-// Behind a tag.
+// The state after a tag.
 fn put_tag<L: Ledger>(
     labels: &Labels,
     collects: bool,
@@ -110,7 +110,7 @@ fn put_tag<L: Ledger>(
     }
 }
 
-// Behind white.
+// The state after white.
 #[inline(always)]
 pub(crate) fn put_white(
     white: White,
@@ -128,7 +128,7 @@ pub(crate) fn put_white(
     }
 }
 
-// Behind items of a text.
+// The state after items of a text.
 #[inline(always)]
 pub(crate) fn put_text<L: Ledger>(
     labels: &Labels,
@@ -152,7 +152,7 @@ pub(crate) fn put_text<L: Ledger>(
     }
 }
 
-// Behind a node.
+// The state after a node.
 pub(crate) fn put_node<L: Ledger>(
     labels: &Labels,
     label: Label,
@@ -199,7 +199,7 @@ impl OpenTag {
         }
     }
 
-    // Behind the tag, of which this is the last child.
+    // The state after the tag, of which this is the last child.
     fn close<L: Ledger>(
         self,
         labels: &Labels,
@@ -224,7 +224,7 @@ impl OpenTag {
         }
     }
 
-    // In an argument or a block of the tag, behind this child.
+    // The state in an argument or a block of the tag, after this child.
     fn go_on(
         self,
         alloc: Global,
@@ -242,7 +242,7 @@ impl OpenTag {
     }
 }
 
-// Behind `|` in an argument.
+// The state after `|` in an argument.
 pub(crate) fn bar_in<L: Ledger>(
     labels: &Labels,
     place: TagPlace,
@@ -268,7 +268,7 @@ pub(crate) fn bar_in<L: Ledger>(
     }
 }
 
-// Behind `>` in an argument of the tag, of which this is the tree.
+// The state after `>` in an argument of the tag, of which this is the tree.
 fn argument_in<L: Ledger>(
     labels: &Labels,
     place: TagPlace,
@@ -292,7 +292,7 @@ fn argument_in<L: Ledger>(
     }
 }
 
-// Behind `>` in an argument.
+// The state after `>` in an argument.
 pub(crate) fn close_in<L: Ledger>(
     labels: &Labels,
     place: TagPlace,
@@ -318,7 +318,7 @@ pub(crate) fn close_in<L: Ledger>(
     }
 }
 
-// Behind a block of the tag, where a middle or closing tag of this label goes on at the place.
+// The state after a block of the tag, where a middle or closing tag of this label goes on at the place.
 pub(crate) fn next_in<L: Ledger>(
     labels: &Labels,
     label: &Label,
@@ -343,7 +343,7 @@ pub(crate) fn next_in<L: Ledger>(
     behind_block(labels, label, place, here, tag, opens, steps)
 }
 
-// The same, of the tag with this label.
+// The state that `next_in` returns, where the tag has this label.
 fn behind_block<L: Ledger>(
     labels: &Labels,
     label: &Label,
@@ -396,7 +396,7 @@ fn collection_in<L: Ledger>(
     }
 }
 
-// Behind a block of the tag, where a closing tag of this label without arguments stands.
+// The state after a block of the tag, where there is a closing tag of this label without arguments.
 pub(crate) fn last_in<L: Ledger>(
     labels: &Labels,
     label: &Label,
@@ -419,7 +419,7 @@ pub(crate) fn last_in<L: Ledger>(
     behind_last(labels, label, here, tag, opens, steps)
 }
 
-// The same, of the tag with this label.
+// The state that `last_in` returns, where the tag has this label.
 fn behind_last<L: Ledger>(
     labels: &Labels,
     label: &Label,
@@ -444,7 +444,7 @@ fn behind_last<L: Ledger>(
     }
 }
 
-// Behind a tag, of which this block is the last child.
+// The state after a tag, of which this block is the last child.
 fn block_in<L: Ledger>(
     labels: &Labels,
     block: Paragraphs,

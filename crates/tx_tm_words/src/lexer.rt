@@ -84,7 +84,7 @@ impl LabelFront {
 pub enum TmWord {
     /// A byte of white.
     White(u8),
-    /// A join, and whether byte 13 stands in it.
+    /// A join, and whether byte 13 is in it.
     Join(bool),
     /// A byte that stands for itself.
     Plain(u8),
@@ -244,7 +244,7 @@ impl Lexer {
     }
 }
 
-/// Whether the word stands for nothing: a join, or a space or a tab behind one.
+/// Whether the word stands for nothing: a join, or a space or a tab after one.
 pub fn is_dropped(behind_join: bool, word: &TmWord) -> bool
     ensures { result ≡ is_dropped behind_join (token_of word.now) }
 {
@@ -255,7 +255,7 @@ pub fn is_dropped(behind_join: bool, word: &TmWord) -> bool
     }
 }
 
-/// The argument of a long or middle tag that stands open behind its beginning, where one follows.
+/// The argument of a long or middle tag that is open after its beginning, where one follows.
 pub fn header_place(more: bool) -> Option<TagPlace>
     ensures { result ≡ header_place more }
 {

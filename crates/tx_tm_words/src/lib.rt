@@ -1,6 +1,6 @@
 //! The words of TM: a lexer that takes the bytes one by one, and bytes at the front that are taken at once.
 //!
-//! What words bytes are cut into stands in `tx_tm_form` (`specs/Tokens.antt`, `specs/Machine.antt`).
+//! The words that bytes are cut into are defined in `tx_tm_form` (`specs/Tokens.antt`, `specs/Machine.antt`).
 #![tactic(auto)]
 
 mod bytes;

@@ -7,8 +7,8 @@ ghost use Rattle.tx_tm_words.specs.Runs.{AreWords, IsWhiteRun};
 use tx_scan::{Stops, first_stop};
 use tx_tm_form::{ByteKind, White, kind_of, white_of};
 
-/// How many bytes are looked at for the end of words, so that it takes no longer where many short runs of them stand
-/// before a stop that is far away.
+/// How many bytes are looked at for the end of words. With this limit it takes no longer where there are many short
+/// runs of them before a stop that is far away.
 pub const MOST_RUN: usize = 256;
 
 // How many bytes at the front are spaces or stand for themselves. There may be more of them where a byte below 32 is
@@ -33,7 +33,7 @@ fn looked_at(bytes: &[u8]) -> usize
     bytes.len().min(MOST_RUN)
 }
 
-// The same of the first bytes alone.
+// How many bytes at the front are spaces or stand for themselves, where only the first `MOST_RUN` bytes are looked at.
 fn short_text_len(bytes: &[u8]) -> usize
     ensures within { result ≤ length bytes.now }
     ensures plain { (k : ℕ) → k < result → slice_index bytes.now k ≢ 32
@@ -54,7 +54,7 @@ fn is_no_space(byte: u8) -> bool
     byte != b' '
 }
 
-// Whether a space stands at the place, and no space behind it, before the place `most`.
+// Whether a space is at the place, and no space after it, before the place `most`.
 #[inline(always)]
 fn is_spaced(bytes: &[u8], at: usize, most: usize) -> bool
     requires front { at < most }
@@ -67,7 +67,7 @@ fn is_spaced(bytes: &[u8], at: usize, most: usize) -> bool
 }
 
 /// How many bytes at the front stand for themselves, with single spaces between some of them. There may be more of them
-/// where a byte below 32 is one, or behind the first 256 bytes.
+/// where a byte below 32 is one, or after the first 256 bytes.
 #[inline(always)]
 pub fn words_len(bytes: &[u8]) -> usize
     ensures within { result ≤ length bytes.now }
@@ -100,7 +100,7 @@ fn is_white(byte: u8) -> bool
     }
 }
 
-/// How many bytes of white stand at the front, and the run that they are.
+/// How many bytes of white are at the front, and the run that they are.
 #[inline(always)]
 pub fn white_front(bytes: &[u8]) -> (usize, White)
     ensures within { result.0 ≤ length bytes.now }

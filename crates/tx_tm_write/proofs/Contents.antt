@@ -40,7 +40,7 @@ paragraph_parts t h = if is_empty t then text [] ∷ [] else content_parts t h
 
 -- ---- white is held
 
--- Each gap is of spaces and stands between two parts that are none. The test tells whether such a part stands before.
+-- Each gap is of spaces and is between two parts that are none. The test says whether there is such a part before.
 abbrev pub is_tight : Bool → List ContentPart → Bool
 is_tight held [] = held
 is_tight held (gap Spaces ∷ ps) = held && is_tight false ps
@@ -48,7 +48,7 @@ is_tight held (gap w ∷ ps) = false
 is_tight held (text x ∷ ps) = is_tight true ps
 is_tight held (tag c t ∷ ps) = is_tight true ps
 
--- some part that is no gap stands before items, in them, or behind them
+-- some part that is no gap is before items, in them, or after them
 abbrev is_ready : Bool → Bool → List Item → Bool
 is_ready true behind items = true
 is_ready false behind [] = behind
@@ -93,7 +93,7 @@ item_ready true behind items b s e = refl
 item_ready false behind [] b s e = absurd cc
 item_ready false behind (i ∷ items) b s e = refl
 
--- the three places of children that are apart: behind a tag, behind a text, and at the front
+-- the three places of children that are apart: after a tag, after a text, and at the front
 mutual
   tight_behind_tag : (ts : Forest) (h : AreWellFormed ts) → are_apart false ts ≡ true
       → is_tight true (parts_side true ts h) ≡ true
@@ -129,7 +129,7 @@ side_tight (cons (node l us) ts) h k e = tight_behind_tag ts h.1 e
 
 -- ---- back to the texts and tags
 
--- each gap is one space where no two of them stand side by side
+-- each gap is one space where no two of them are side by side
 abbrev pub singly : List ℕ → List ContentPart → List WideTree
 singly bytes [] = leaf_before bytes []
 singly bytes (gap w ∷ ps) = singly (bytes ++ 32 ∷ []) ps
@@ -167,7 +167,7 @@ items_singly before behind (symbol name ∷ items) bytes rest =
     items_singly true behind items (bytes ++ symbol_bytes name) rest
     ∙ ap (λ z. singly z rest) (append_assoc bytes (symbol_bytes name) (flat_map item_bytes items))
 
--- of children that are apart, behind no text and behind a text
+-- of children that are apart, after no text and after a text
 mutual
   side_singly : (ts : Forest) (before : Bool) (h : AreWellFormed ts) → are_apart false ts ≡ true
       → singly [] (parts_side before ts h) ≡ trees ts

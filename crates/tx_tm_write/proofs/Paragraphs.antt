@@ -12,12 +12,12 @@ use Rattle.tx_tm_write.proofs.Contents.{is_tight, is_ordinary}
 abbrev pub IsTight : List ContentPart → Type 0
 IsTight q = is_tight false q ≡ true
 
--- the parts of further paragraphs, each behind this white
+-- the parts of further paragraphs, each after this white
 abbrev after_white : List ContentPart → List (List ContentPart) → List ContentPart
 after_white white [] = []
 after_white white (q ∷ qs) = white ++ (q ++ after_white white qs)
 
--- as they are written: behind two bytes 10 each
+-- as they are written: each after two bytes 10
 abbrev pub behind_lines : List (List ContentPart) → List ContentPart
 behind_lines = after_white (gap Line ∷ gap Line ∷ [])
 
@@ -27,7 +27,7 @@ behind_breaks = after_white (gap Break ∷ [])
 
 -- ---- white side by side
 
--- a run stays by itself before parts that begin with no gap
+-- a run is unchanged before parts that begin with no gap
 run_stays : (w : White) (q rest : List ContentPart) → IsTight q → run_before (gap w) (q ++ rest) ≡ gap w ∷ (q ++ rest)
 run_stays w [] rest h = absurd cc
 run_stays w (gap Spaces ∷ q) rest h = absurd cc
@@ -77,7 +77,7 @@ first_stays (gap Break ∷ q) rest h = absurd cc
 first_stays (text x ∷ q) rest h = refl
 first_stays (tag c t ∷ q) rest h = refl
 
--- a run stays before parts that are not all white
+-- a run is unchanged before parts that are not all white
 unless_stays : (w : White) (q rest : List ContentPart) → IsTight q
     → unless_last (gap w) (q ++ rest) ≡ gap w ∷ (q ++ rest)
 unless_stays w [] rest h = absurd cc
@@ -159,7 +159,7 @@ whole_runs : (q : List ContentPart) (qs : List (List ContentPart)) (rest : List 
     → with_runs ((q ++ behind_lines qs) ++ rest) ≡ (q ++ behind_breaks qs) ++ with_runs rest
 whole_runs q qs rest h k = paragraph_runs q qs rest h (lines_runs qs rest k)
 
--- what is left without the white behind
+-- what is left without the white after it
 left : (q : List ContentPart) (qs : List (List ContentPart)) (rest : List ContentPart) → IsTight q
     → AllByRecursion IsTight qs
     → to_last rest ≡ [] → tree_of_document (parts_by_paragraph (to_last ((q ++ behind_breaks qs) ++ rest)))
@@ -168,7 +168,7 @@ left q qs rest h k e = ap (λ z. tree_of_document (parts_by_paragraph z))
     (paragraph_last q qs rest h (breaks_last qs rest k e))
     ∙ ap tree_of_document (all_paragraphs q qs h k)
 
--- white behind the paragraphs
+-- white after the paragraphs
 pub block_behind : (q : List ContentPart) (qs : List (List ContentPart)) (rest : List ContentPart) → IsTight q
     → AllByRecursion IsTight qs
     → to_last (with_runs rest) ≡ []

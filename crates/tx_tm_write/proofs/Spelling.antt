@@ -123,7 +123,7 @@ lines_block bytes t h = block_between Line h.first h.others (gap Line ∷ []) h.
 
 -- ---- tags
 
--- what stands behind the label of a tag, with a block among the trees or without one
+-- what is after the label of a tag, with a block among the trees or without one
 abbrev Goes : List ℕ → Bool → List ℕ → List WideTree → Type 0
 Goes label true bytes ts = Continues label bytes ts
 Goes label false bytes ts = Follows bytes ts
@@ -150,7 +150,7 @@ either_stands : (i : Bool) (x y : List ℕ) (ps qs : List ContentPart) → Stand
 either_stands true x y ps qs h k = h
 either_stands false x y ps qs h k = k
 
--- a block and the beginning of the next tag, before what stands behind its label
+-- a block and the beginning of the next tag, before what is after its label
 lines_text : (label block rest : List ℕ) (mark : ℕ)
     → 62 ∷ ((10 ∷ (block ++ 10 ∷ [])) ++ 60 ∷ mark ∷ (label ++ rest)) ≡ (62 ∷ 10 ∷ (block ++ 10 ∷ opened mark label))
     ++ rest

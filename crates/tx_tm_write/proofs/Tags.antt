@@ -70,7 +70,7 @@ raw_tag label ts e = let p = and_parts (same_bytes label raw_data_label) (is_one
 
 -- ---- beginnings of tags
 
--- behind a label: arguments, the end of the tag, and more
+-- after a label: arguments, the end of the tag, and more
 begin : (form : TagForm) (label : List ℕ) (xs : Arguments) (y : List ℕ) (more : List Token) → IsLabel label
     → AreWords y (more_arguments xs ++ more)
     → AreWords (60 ∷ (form_mark form ++ (label ++ y))) (tag_beginning form label xs ++ more)
@@ -90,7 +90,7 @@ begin form label (argument x xs) y more l h =
           ∙ ap (λ z. 60 ∷ z) (sym (append_assoc (form_mark form) (label ++ 124 ∷ []) (flat_map written others)));
     }
 
--- what stands behind the label of a tag: arguments with these trees, and the end of the tag
+-- what is after the label of a tag: arguments with these trees, and the end of the tag
 pub record Follows (bytes : List ℕ) (ts : List WideTree) : Type 0 where
   pub arguments : Arguments
   pub words : AreWords bytes (more_arguments arguments)
@@ -123,7 +123,7 @@ short_stands label bytes ts l h =
 
 -- ---- long tags
 
--- what stands behind the label of a long or middle tag: arguments, a block, and the other tags, with these trees
+-- what is after the label of a long or middle tag: arguments, a block, and the other tags, with these trees
 pub record Continues (label bytes : List ℕ) (ts : List WideTree) : Type 0 where
   pub arguments : Arguments
   pub first : Pieces
@@ -231,7 +231,7 @@ white_newline = refl
 pub newline_stands : Stands (10 ∷ []) (gap Line ∷ [])
 newline_stands = one_stands (blank 10) (10 ∷ []) (one_word (white 10) white_newline)
 
--- tags, with a newline behind each
+-- tags, with a newline after each
 abbrev pub tag_lines : Forest → List ContentPart
 tag_lines nil = []
 tag_lines (cons t ts) = tag false t ∷ gap Line ∷ tag_lines ts

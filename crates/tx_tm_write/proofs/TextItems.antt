@@ -18,7 +18,7 @@ use Rattle.tx_tm_write.proofs.Standing.{both_stand, one_stands}
 
 -- ---- one byte
 
--- the part that a byte of a text is, where raw tells how a space is written
+-- the part that a byte of a text is, where raw says how a space is written
 abbrev pub byte_part : Bool → ℕ → ContentPart
 byte_part raw b = if b == 32 && raw then gap Spaces else text (b ∷ [])
 

@@ -6,18 +6,18 @@ use Rattle.tx_tm_form.specs.Parts.{same_bytes, document_label, collection_label}
 use Rattle.tx_tm_write.specs.Shapes.{some, is_block, has_block, is_empty, stays_inline, is_raw, is_long, digits_of}
 
 -- ---- items
--- In a text, < and > stand only round the name of a symbol, and a name has no spaces and no control bytes. So items can
+-- In a text, < and > are only round the name of a symbol, and a name has no spaces and no control bytes. So items can
 -- be written byte by byte.
 
--- a byte that stands behind a backslash as it is
+-- a byte that is written after a backslash as it is
 abbrev pub is_marked : ℕ → Bool
 is_marked b = b == 60 || b == 62 || b == 92 || b == 124
 
--- a control byte, 28 aside, stands behind a backslash as the byte 64 more
+-- a control byte, 28 aside, is written after a backslash as the byte 64 more
 abbrev pub is_control : ℕ → Bool
 is_control b = nat_lt b 32 && not (b == 28)
 
--- a byte, where raw tells how a space is written
+-- a byte, where raw says how a space is written
 abbrev pub byte_text : Bool → ℕ → List ℕ
 byte_text raw b =
     if b == 32 then (if raw then 32 ∷ [] else 92 ∷ 32 ∷ [])
@@ -25,13 +25,13 @@ byte_text raw b =
     else if is_control b then 92 ∷ (b + 64) ∷ []
     else b ∷ []
 
--- whether a part that is no space stands behind: the next byte, or else what stands behind the text
+-- whether a part that is no space is next: the next byte, or else what is after the text
 abbrev pub is_held : Bool → List ℕ → Bool
 is_held behind [] = behind
 is_held behind (b ∷ text) = not (b == 32)
 
--- The items of a text. A space is raw where a part that is no space stands on both sides. The two tests tell whether
--- one stands before and behind the text.
+-- The items of a text. A space is raw where there is a part that is no space on both sides. The two tests say whether
+-- there is one before and after the text.
 abbrev pub items_text : Bool → Bool → List ℕ → List ℕ
 items_text before behind [] = []
 items_text before behind (b ∷ text) =
@@ -43,7 +43,7 @@ items_text before behind (b ∷ text) =
 abbrev pub opened : ℕ → List ℕ → List ℕ
 opened mark label = 60 ∷ mark ∷ label
 
--- behind a block stands a middle tag where a further block follows, else the closing tag
+-- after a block there is a middle tag where a further block follows, else the closing tag
 abbrev pub next_mark : Bool → ℕ
 next_mark more = if more then 124 else 47
 
@@ -55,7 +55,7 @@ with_lines label more block = 62 ∷ 10 ∷ (block ++ 10 ∷ opened (next_mark m
 abbrev pub or_mark : WideTree → List ℕ → List ℕ
 or_mark t content = if is_empty t then 92 ∷ 59 ∷ [] else content
 
--- an empty line stands between two paragraphs
+-- an empty line is between two paragraphs
 abbrev pub between : Bool → List ℕ
 between more = if more then 10 ∷ 10 ∷ [] else []
 
@@ -63,7 +63,7 @@ between more = if more then 10 ∷ 10 ∷ [] else []
 abbrev pub with_ends : List ℕ → List ℕ
 with_ends tags = opened 92 collection_label ++ 62 ∷ 10 ∷ (tags ++ (opened 47 collection_label ++ 62 ∷ []))
 
--- the tag of a node, by what stands behind the beginning of a long tag and by the arguments of a short one
+-- the tag of a node, by what is after the beginning of a long tag and by the arguments of a short one
 abbrev pub tag_text : List ℕ → Forest → List ℕ → List ℕ → List ℕ
 tag_text label ts long arguments =
     if is_raw label ts then 60 ∷ 35 ∷ (digits_of ts ++ 62 ∷ [])
@@ -71,7 +71,7 @@ tag_text label ts long arguments =
     else 60 ∷ (label ++ (arguments ++ 62 ∷ []))
 
 abbrev mutual
-  -- The items of a text or the tag of a node. The tests tell of parts on both sides, as for items.
+  -- The items of a text or the tag of a node. The tests say whether there are parts on both sides, as for items.
   pub part_text : Bool → Bool → WideTree → List ℕ
   part_text before behind (leaf text) = items_text before behind text
   part_text before behind (node label ts) = tag_text label ts (long_text label ts) (arguments_text ts)
@@ -86,12 +86,12 @@ abbrev mutual
   parts_text before nil = []
   parts_text before (cons t ts) = part_text before (some ts) t ++ parts_text true ts
 
-  -- content behind | each
+  -- content after | each
   pub arguments_text : Forest → List ℕ
   arguments_text nil = []
   arguments_text (cons t ts) = 124 ∷ (content_text t ++ arguments_text ts)
 
-  -- behind the beginning of a long tag: its arguments, its blocks, and its other tags
+  -- after the beginning of a long tag: its arguments, its blocks, and its other tags
   pub long_text : List ℕ → Forest → List ℕ
   long_text label nil = 62 ∷ []
   long_text label (cons t ts) =

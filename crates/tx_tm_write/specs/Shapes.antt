@@ -29,7 +29,7 @@ is_empty (leaf []) = true
 is_empty (leaf (b ∷ text)) = false
 is_empty (node label ts) = false
 
--- no child is the empty text, and no two texts stand side by side; the test tells whether a text stands before
+-- no child is the empty text, and no two texts are side by side; the test says whether there is a text before
 abbrev pub are_apart : Bool → Forest → Bool
 are_apart behind_text nil = true
 are_apart behind_text (cons t ts) = not (is_empty t || (behind_text && is_leaf t)) && are_apart (is_leaf t) ts
@@ -72,7 +72,7 @@ digits_of (cons t ts) = text_or_empty t
 abbrev pub is_long : List ℕ → Forest → Bool
 is_long label ts = not (same_bytes label collection_label) && has_block ts
 
--- the same, with the digits
+-- the node is raw data with these digits
 pub record IsRaw (label : List ℕ) (ts : List WideTree) (digits : List ℕ) : Type 0 where
   pub raw : is_raw label (forest ts) ≡ true
   pub are : digits_of (forest ts) ≡ digits

@@ -4,21 +4,21 @@ ghost use Rattle.tx_tm_write.specs.Canonical.{is_marked, is_control, byte_text, 
 
 use tx_base::Memory;
 
-// Whether the byte stands behind a backslash as it is.
+// Whether the byte is written after a backslash as it is.
 pub(crate) fn is_marked(byte: u8) -> bool
     ensures { result ≡ is_marked byte }
 {
     matches!(byte, b'<' | b'>' | b'\\' | b'|')
 }
 
-// Whether the byte stands behind a backslash as the byte 64 more.
+// Whether the byte is written after a backslash as the byte 64 more.
 pub(crate) fn is_control(byte: u8) -> bool
     ensures { result ≡ is_control byte }
 {
     byte < 32 && byte != 28
 }
 
-// Whether a part that is no space stands at this place of a text, or behind the text.
+// Whether a part that is no space is at this place of a text, or after the text.
 pub(crate) fn is_held(text: &[u8], at: usize, behind: bool) -> bool
     requires { at ≤ length text.now }
     ensures { result ≡ is_held behind (drop at text.now) }
@@ -47,7 +47,7 @@ fn append_byte(byte: u8, raw: bool, out: &mut Vec<u8>) -> Result<(), Memory>
     Ok(())
 }
 
-// Appends the items of a text, where parts that are no spaces may stand before and behind it.
+// Appends the items of a text, where there may be parts that are no spaces before and after it.
 pub(crate) fn append_items(
     text: &[u8],
     before: bool,

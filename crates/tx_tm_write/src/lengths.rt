@@ -1,5 +1,4 @@
-// The length of the canonical text. A count stands still at its greatest value, which no text within the limits
-// reaches.
+// The length of the canonical text. A count stops at its greatest value, which no text within the limits reaches.
 ghost use Rattle.std.specs.Prelude.{◌≡◌, ◌<◌, ◌≤◌, ◌+◌, ◌^◌, ◌++◌, ◌∷◌, [], true, false, length, take, drop};
 ghost use Rattle.tx_tree.specs.WideTree.{forest, children_of, label_of};
 ghost use Rattle.tx_tm_write.specs.Shapes.{some, is_block, has_block, is_raw};
@@ -58,7 +57,7 @@ fn short_length(label: &Label, t: &Tree) -> u64
     count
 }
 
-// The length of a child of a long tag, and behind a block of the beginning of the next tag.
+// The length of a child of a long tag, and after a block also of the beginning of the next tag.
 #[cycle(counting)]
 #[tactic(auto, using(std::proofs::lemmas::Grind::common_steps))]
 fn long_child_length(label: &Label, children: &[Tree], i: usize, child: &Tree) -> u64

@@ -98,7 +98,7 @@ pub(crate) fn is_empty(t: &Tree) -> bool
     }
 }
 
-// Whether none of the trees is the empty text, and no two texts stand side by side.
+// Whether none of the trees is the empty text, and no two texts are side by side.
 fn are_apart(trees: &[Tree]) -> bool
     ensures { result ≡ are_apart false (forest trees.now) }
 {

@@ -37,7 +37,7 @@ fn append_raw(digits: &[u8], out: &mut Vec<u8>) -> Result<(), Memory>
     Ok(())
 }
 
-// The mark of the tag behind a block, before the trees from this place on.
+// The mark of the tag after a block, before the trees from this place on.
 fn next_mark(trees: &[Tree], from: usize) -> u8
     requires { from ≤ length trees.now }
     ensures { result ≡ next_mark (has_block (forest (drop from trees.now))) }
@@ -76,7 +76,7 @@ fn append_lines(t: &Tree, out: &mut Vec<u8>) -> Result<(), Memory>
     Ok(())
 }
 
-// Appends a child of a long tag, and behind a block the beginning of the next tag.
+// Appends a child of a long tag, and after a block the beginning of the next tag.
 #[cycle(writing)]
 #[tactic(auto, using(std::proofs::lemmas::Grind::common_steps))]
 fn append_long_child(
@@ -116,7 +116,7 @@ fn append_long(label: &Label, t: &Tree, out: &mut Vec<u8>) -> Result<(), Memory>
     Ok(())
 }
 
-// Appends the items of a text or the tag of a node, where parts that are no spaces may stand before and behind it.
+// Appends the items of a text or the tag of a node, where there may be parts that are no spaces before and after it.
 #[cycle(writing)]
 #[tactic(auto, using(crate::proofs::Writing::part_rules))]
 fn append_part(t: &Tree, before: bool, behind: bool, out: &mut Vec<u8>) -> Result<(), Memory>
@@ -183,7 +183,7 @@ fn append_paragraph(t: &Tree, out: &mut Vec<u8>) -> Result<(), Memory>
     append_content(t, out)
 }
 
-// Appends what stands between two paragraphs, where there are more.
+// Appends what is between two paragraphs, where there are more.
 fn append_between(more: bool, out: &mut Vec<u8>) -> Result<(), Memory>
     ensures ok { OnOk result (out.new.items ≡ out.old.items ++ between more) }
     ensures grows { take (length out.old.items) out.new.items ≡ out.old.items }
@@ -241,7 +241,7 @@ fn append_block(t: &Tree, out: &mut Vec<u8>) -> Result<(), Memory>
     append_tags(t, out)
 }
 
-/// Appends the canonical text of a block, without a newline behind it. After `Memory` `out` is as before.
+/// Appends the canonical text of a block, without a newline after it. After `Memory` `out` is as before.
 pub fn write(t: &Tree, out: &mut Vec<u8>) -> Result<(), Memory>
     requires block { is_block t.now ≡ true }
     ensures ok { OnOk result (out.new.items ≡ out.old.items ++ tm_text t.now) }

@@ -1,5 +1,5 @@
-mod LineCounts
-mod ErrorCounts
+pub mod LineCounts
+pub mod ErrorCounts
 mod ClusterCounts
 mod FormWeights
 pub mod Labelled
@@ -7,7 +7,7 @@ pub mod ShownWeights
 mod Parting
 mod Single
 mod ClusterCuts
-mod ShownItems
+pub mod ShownItems
 mod Marking
 mod OnLines
 mod Shortness
