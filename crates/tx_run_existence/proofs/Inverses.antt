@@ -1,6 +1,6 @@
 -- What undoes a modification of a well formed tree is sound.
 use Rattle.std.proofs.Common.{◌≡◌, ℕ, zero, suc, ◌+◌, List, [], ◌∷◌, ◌++◌, take, drop, Ok, Some, true, sym, ap, subst, ◌∙◌}
-use Rattle.std.proofs.Common.{arith}
+use Rattle.std.proofs.Common.{length, arith}
 use Rattle.std.specs.Option.{option_map_or}
 use Rattle.std.proofs.lemmas.List.{take-append-drop, take-take, drop-take}
 use Rattle.tx_tree.specs.Cuts.{is_cut}
@@ -60,7 +60,7 @@ formed_drop (suc n) (t ∷ ts) h = formed_drop n ts h.1
 removed_formed : (s v : WideTree) (i n : ℕ) → IsWellFormed s → removed s i n ≡ Ok v
     → IsWellFormed (removed_part s i n)
 removed_formed (leaf text) v i n h e =
-    let a = ok_asked _ (BadPlace _) _ v e in
+    let a = ok_asked _ (BadPlace (length text)) _ v e in
     let b = ok_asked (is_cut text i) (CutsSymbol i) _ v a.1 in
     let c = ok_asked (is_cut text (i + n)) (CutsSymbol (i + n)) _ v b.1 in
     slice_text text i n h b.0 c.0

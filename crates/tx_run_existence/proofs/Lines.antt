@@ -1,5 +1,5 @@
 -- Bytes have lines, and lines before `quit` are none.
-use Rattle.std.proofs.Common.{◌≡◌, ◌≢◌, ℕ, ◌+◌, Bool, true, false, not, cond, List, [], ◌∷◌, ◌++◌, take, inl, inr, refl, ap, ap₂}
+use Rattle.std.proofs.Common.{◌≡◌, ◌≢◌, ℕ, ◌+◌, Bool, true, false, not, cond, List, [], ◌∷◌, ◌++◌, take, inl, inr, refl, ap, ap₂, subst, arith, suc}
 use Rattle.std.specs.Prelude.{All}
 use Rattle.std.specs.List.{AllByRecursion, flat_map, prefix_len}
 use Rattle.std.proofs.lemmas.Bool.{cases_eq}
@@ -66,7 +66,12 @@ pub none_quits : (lines : List (List ℕ)) → AllByRecursion IsNoQuit (before_q
 none_quits [] = tt
 none_quits (x ∷ lines) = by_test (is_quit x) refl
   where
+    front : ℕ
+    front = prefix_len (λ l. not (is_quit l)) lines
+
     by_test : (b : Bool) → is_quit x ≡ b
-        → AllByRecursion IsNoQuit (take (cond (not b) (1 + prefix_len (λ l. not (is_quit l)) lines) 0) (x ∷ lines))
+        → AllByRecursion IsNoQuit (take (cond (not b) (1 + front) 0) (x ∷ lines))
     by_test true e = tt
-    by_test false e = (e, none_quits lines)
+    by_test false e =
+        let more : suc front ≡ 1 + front = omega arith in
+        subst (λ n. AllByRecursion IsNoQuit (take n (x ∷ lines))) more (e, none_quits lines)

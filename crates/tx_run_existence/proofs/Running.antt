@@ -2,7 +2,7 @@
 use Rattle.std.proofs.Common.{◌≡◌, ◌≢◌, ◌⊎◌, inl, inr, ℕ, zero, suc, ◌+◌, ◌-◌, ◌^◌, ◌==◌, ◌<◌, ◌≤◌, Bool, true, false, not, List, []}
 use Rattle.std.proofs.Common.{◌∷◌, ◌++◌, length, take, drop, Option, Some, None, refl, sym, subst, ◌∙◌, arith, append-nil}
 use Rattle.std.specs.Prelude.{All, Contains, ◌&&◌}
-use Rattle.std.specs.List.{AllByRecursion}
+use Rattle.std.specs.List.{AllByRecursion, position_or_len}
 use Rattle.std.specs.Io.KnownBytes.{append_known}
 use Rattle.std.proofs.lemmas.Bool.{cases_lt, cases_eq, cases_Bool}
 use Rattle.std.proofs.lemmas.List.Elements.{All-nil, All-cons, Contains-append_right}
@@ -38,7 +38,7 @@ record HasEnd (start : World) (script : List ℕ) : Type 0 where
   final : IsFinal status
   played : IsPlayed start script marks (Some rest) status last text
 
-HasQuit : List (List ℕ) → Type 0
+abbrev HasQuit : List (List ℕ) → Type 0
 HasQuit lines = (quitting : List ℕ) × Contains lines quitting × (is_quit quitting ≡ true)
 
 quits_or_not : (lines : List (List ℕ)) → HasQuit lines ⊎ AllByRecursion IsNoQuit lines
@@ -115,7 +115,7 @@ ended start script h = elim (cases_lt MOST_SCRIPT (length script)) [
 
 -- ---- the script of a generated document
 
-is_plain : List ℕ → Bool
+abbrev is_plain : List ℕ → Bool
 is_plain [] = true
 is_plain (b ∷ bs) = not (b == 10) && is_plain bs
 
@@ -132,7 +132,7 @@ plain_is (b ∷ bs) e =
     by_number : (c : ℕ) → c ≡ 10 → not (c == 10) ≡ true → ⊥
     by_number c same f = let ten : not (10 == 10) ≡ true = subst (λ d. not (d == 10) ≡ true) same f in cc
 
-are_plain : List (List ℕ) → Bool
+abbrev are_plain : List (List ℕ) → Bool
 are_plain [] = true
 are_plain (x ∷ lines) = is_plain x && are_plain lines
 
@@ -142,7 +142,7 @@ plain_are (x ∷ lines) e =
     let both = both_true (is_plain x) (are_plain lines) e in
     All-cons IsOneLine x lines (plain_is x both.0) (plain_are lines both.1)
 
-lines_alone : List (List ℕ)
+abbrev lines_alone : List (List ℕ)
 lines_alone = generated_lines ++ [] ∷ []
 
 ended_alone : HasEndedLines generated_script generated_lines []
@@ -188,7 +188,7 @@ ended_alone_by all steps h =
           left = inl refl;
         };
         unfailing = λ e. cc;
-        kept = a.kept (front_of _ lines_alone saves_none);
+        kept = a.kept (front_of (position_or_len is_quit lines_alone) lines_alone saves_none);
         counted = refl;
       };
     }
@@ -234,7 +234,7 @@ module _ (words : List (List ℕ)) (before : Outside) (told : Files) (script : L
   comes o h = subst (λ (fs : Option Files). ComesTo words fs o) (sym known) h
 
   -- what is outside after the text is written
-  after_text : StoreSeen → Option (List ℕ) → ℕ → List ℕ → Outside
+  abbrev after_text : StoreSeen → Option (List ℕ) → ℕ → List ℕ → Outside
   after_text store left steps text = record {
     store = store;
     input = record before.input { left = left };
@@ -242,7 +242,7 @@ module _ (words : List (List ℕ)) (before : Outside) (told : Files) (script : L
     steps = steps;
   }
 
-  plainly : OpenOutcome → StoreSeen → Outside
+  abbrev plainly : OpenOutcome → StoreSeen → Outside
   plainly o store = after_text store before.input.left before.steps (outcome_text o)
 
   by_outcome : (o : OpenOutcome) → ComesTo words (Some told) o → IsDecided o → HasRun words before
