@@ -1,5 +1,6 @@
 pub mod Reading
 pub mod Files
+pub mod Loads
 pub mod Nodes
 mod Single
 mod Complete

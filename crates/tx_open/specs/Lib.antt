@@ -1,3 +1,4 @@
 pub mod Forms
+pub mod Loads
 pub mod Outcomes
 pub mod Openings

@@ -1,12 +1,13 @@
 // A file, loaded and read.
-ghost use Rattle.std.specs.Prelude.{◌≡◌, ◌≢◌, ◌≤◌, ◌+◌, ◌*◌, IfOk, IfErr};
+ghost use Rattle.std.specs.Prelude.{◌≡◌, ◌≢◌, ◌≤◌, ◌+◌, ◌*◌, IfOk, IfErr, OnOk, Ok};
 ghost use Rattle.tx_outside.specs.Outside.{StoreGoesOn};
 ghost use Rattle.tx_tree.specs.Limits.{IsWithinLimits};
 ghost use Rattle.tx_tree.specs.WideTree.{nodes_of};
 ghost use Rattle.tx_words.specs.Seen.{named_of};
 ghost use Rattle.tx_open.specs.Forms.{SpellsIn, IsFaultIn};
+ghost use Rattle.tx_open.specs.Loads.{IsLastLoad};
 ghost use Rattle.tx_open.specs.Openings.{failed_as};
-ghost use Rattle.tx_open.specs.Outcomes.{EndsAt, IsCaused, IsReadAs, IsTreeOfFile};
+ghost use Rattle.tx_open.specs.Outcomes.{EndsAt, IsReadAs, IsTreeOfFile};
 
 use crate::failure::Failure;
 use std::alloc::Global;
@@ -44,7 +45,9 @@ fn read_tree<'a, S: Store, L: Ledger>(
 ) -> Result<Tree, Failure<'a>>
     ensures tree { IfOk result (λ t. IsTreeOfFile (S.seen store.old).files word.entry.now t) }
     ensures failed { IfErr result (λ failure. EndsAt (S.seen store.old).files word.entry.now (failed_as failure)) }
-    ensures caused { IfErr result (λ failure. IsCaused (S.seen store.old) (S.seen store.new) (failed_as failure)) }
+    ensures loaded { OnOk result (S.load_leaves word.entry.now (Ok tt) store.old store.new) }
+    ensures last { IfErr result (λ failure.
+        IsLastLoad S.load_leaves S.seen word.entry.now (failed_as failure) store.old store.new) }
     ensures counted { IfOk result (λ t. steps.new ≤ steps.old + nodes_of t) }
     ensures files_kept { (S.seen store.new).files ≡ (S.seen store.old).files }
     ensures store_goes_on { StoreGoesOn (S.seen store.old) (S.seen store.new) }
@@ -72,7 +75,9 @@ pub(crate) fn read_file<'a, S: Store, L: Ledger>(
 ) -> Result<Buffer, Failure<'a>>
     ensures read { IfOk result (λ buffer. IsReadAs (S.seen store.old).files (named_of file.entry) buffer) }
     ensures failed { IfErr result (λ failure. EndsAt (S.seen store.old).files file.entry.word.now (failed_as failure)) }
-    ensures caused { IfErr result (λ failure. IsCaused (S.seen store.old) (S.seen store.new) (failed_as failure)) }
+    ensures loaded { OnOk result (S.load_leaves file.entry.word.now (Ok tt) store.old store.new) }
+    ensures last { IfErr result (λ failure.
+        IsLastLoad S.load_leaves S.seen file.entry.word.now (failed_as failure) store.old store.new) }
     ensures counted { IfOk result (λ buffer. steps.new ≤ steps.old + 2 * nodes_of buffer.tree) }
     ensures files_kept { (S.seen store.new).files ≡ (S.seen store.old).files }
     ensures store_goes_on { StoreGoesOn (S.seen store.old) (S.seen store.new) }

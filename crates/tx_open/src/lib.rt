@@ -12,5 +12,5 @@ mod laws;
 mod opening;
 
 pub use buffers::Buffers;
-pub use laws::one_outcome;
+pub use laws::{loads_are_counted, one_outcome};
 pub use opening::{Opened, Opening, open};

@@ -2,7 +2,6 @@
 ghost use Rattle.std.specs.Prelude.{◌≡◌, ◌<◌, ◌≤◌, ◌+◌, ◌*◌, ◌^◌, ◌⊎◌, ℕ, List, [], ◌∷◌, map, length};
 ghost use Rattle.std.specs.Prelude.{IfOk, IfErr, OnOk};
 ghost use Rattle.std.specs.String.{string_bytes};
-ghost use Rattle.tx_outside.specs.Counts.{Rose};
 ghost use Rattle.tx_outside.specs.Outside.{StoreGoesOn, StoreIsFaultless};
 ghost use Rattle.tx_doc.specs.Buffers.{NamesDiffer};
 ghost use Rattle.tx_doc.specs.declared.buffer.Buffer.{Buffer as SomeBuffer};
@@ -10,8 +9,9 @@ ghost use Rattle.tx_words.specs.Seen.{named_of};
 ghost use Rattle.tx_words.specs.declared.asked.Source.{Source as SomeSource};
 ghost use Rattle.tx_words.specs.Words.{Ask, AreFaulty};
 ghost use Rattle.tx_open.specs.Openings.{IfOpened, failed_as, open_outcome, reading_cost};
-ghost use Rattle.tx_open.specs.Outcomes.{AreRead, AskForFiles, CanBeOpened, ComesTo, EndsIn, IsCaused, IsGenerated};
-ghost use Rattle.tx_open.specs.Outcomes.{missing, no_memory, nodes_in_buffers, opened, store_fault, too_long};
+ghost use Rattle.tx_open.specs.Loads.{AreLoaded, AreLoadedUpTo, StoreIsAsked};
+ghost use Rattle.tx_open.specs.Outcomes.{AreRead, AskForFiles, CanBeOpened, ComesTo, EndsIn, IsGenerated};
+ghost use Rattle.tx_open.specs.Outcomes.{no_memory, nodes_in_buffers};
 ghost use Rattle.tx_open.specs.declared.opening.Opened.{Opened as WasOpened};
 
 use crate::buffers::Buffers;
@@ -92,7 +92,9 @@ fn add_files<'a, S: Store, L: Ledger>(
     ensures read { OnOk result (AreRead (S.seen store.old).files (map named_of files.now) buffers.new.items) }
     ensures failed { IfErr result
         (λ failure. EndsIn (S.seen store.old).files (map named_of files.now) (failed_as failure)) }
-    ensures caused { IfErr result (λ failure. IsCaused (S.seen store.old) (S.seen store.new) (failed_as failure)) }
+    ensures loaded { OnOk result (AreLoaded S.load_leaves (map named_of files.now) store.old store.new) }
+    ensures last { IfErr result (λ failure.
+        AreLoadedUpTo S.load_leaves S.seen (map named_of files.now) (failed_as failure) store.old store.new) }
     ensures counted { OnOk result (steps.new ≤ steps.old + 2 * nodes_in_buffers buffers.new.items) }
     ensures files_kept { (S.seen store.new).files ≡ (S.seen store.old).files }
     ensures store_goes_on { StoreGoesOn (S.seen store.old) (S.seen store.new) }
@@ -115,7 +117,9 @@ fn read_files<'a, S: Store, L: Ledger>(
     ensures size { IfOk result (λ all. (all.width ≡ width) × (all.height ≡ height)) }
     ensures read { IfOk result (λ all. AreRead (S.seen store.old).files files.now all.buffers) }
     ensures failed { IfErr result (λ failure. EndsIn (S.seen store.old).files files.now (failed_as failure)) }
-    ensures caused { IfErr result (λ failure. IsCaused (S.seen store.old) (S.seen store.new) (failed_as failure)) }
+    ensures loaded { OnOk result (AreLoaded S.load_leaves files.now store.old store.new) }
+    ensures last { IfErr result (λ failure.
+        AreLoadedUpTo S.load_leaves S.seen files.now (failed_as failure) store.old store.new) }
     ensures counted { IfOk result (λ all. steps.new ≤ steps.old + 2 * nodes_in_buffers all.buffers) }
     ensures files_kept { (S.seen store.new).files ≡ (S.seen store.old).files }
     ensures store_goes_on { StoreGoesOn (S.seen store.old) (S.seen store.new) }
@@ -184,13 +188,9 @@ pub fn open<'a, S: Store, L: Ledger>(
     ensures words_read { result ≡ Opening.NoMemory
         → (width height : ℕ) × (source : SomeSource) × Ask (map string_bytes words.now) width height source }
 
-    // Where the store is blamed, its count rose.
-    ensures missing_counted { (word : List ℕ) → open_outcome result ≡ missing word
-        → Rose (S.seen store.old).misses (S.seen store.new).misses }
-    ensures fault_counted { (word : List ℕ) → open_outcome result ≡ store_fault word
-        → Rose (S.seen store.old).faults (S.seen store.new).faults }
-    ensures long_counted { (word : List ℕ) → open_outcome result ≡ too_long word
-        → Rose (S.seen store.old).longs (S.seen store.new).longs }
+    // What is asked of the store. Where it is blamed, its count rose in the load of the printed word.
+    ensures loads { StoreIsAsked S.load_leaves S.seen (map string_bytes words.now) (open_outcome result)
+        store.old store.new }
 
     // What was opened is what a session begins with.
     ensures width { IfOpened result (λ all. (20 ≤ all.width) × (all.width ≤ 500)) }

@@ -1,7 +1,10 @@
 -- What contracts see of a source, a sink and a store in memory.
-use Rattle.std.specs.Prelude.{ℕ, List, Contains, Some}
+use Rattle.std.specs.Prelude.{◌≡◌, ℕ, ◌≤◌, List, Contains, Some, IsSomeAnd, Result, Ok, Err, length}
 use Rattle.tx_outside.specs.Counts.{raised}
-use Rattle.tx_outside.specs.Files.{Files}
+use Rattle.tx_outside.specs.Files.{Files, IsAbsent, IsTooLong, file_of}
+use Rattle.tx_outside.specs.declared.faults.LoadFault.{LoadFault}
+use Rattle.tx_outside.specs.declared.faults.LoadFault.TheVariants.{Missing, Failed, TooLong, Memory}
+use Rattle.tx_outside.specs.declared.file_store.TheConstants.{MOST_FILE}
 use Rattle.tx_outside.specs.Outside.{SinkSeen, SourceSeen, StoreSeen}
 
 -- the calls of one object: the numbers of those that fail, the number of the next one, and how many failed
@@ -59,3 +62,15 @@ seen_store store =
       misses = store.misses;
       longs = store.longs;
     }
+
+-- What a load of the file of that name leaves of a store, by what it returned: one call more, and its fault counted.
+abbrev pub LoadLeaves : List ℕ → Result (Unit {0}) LoadFault → (old new : MemoryStore) → Type 0
+LoadLeaves name (Ok done) old new =
+    IsSomeAnd (file_of old.files name) (λ bytes. length bytes ≤ MOST_FILE)
+    × (new ≡ record old { calls = one_more old.calls })
+LoadLeaves name (Err Missing) old new =
+    IsAbsent name old.files × (new ≡ record old { calls = one_more old.calls; misses = raised old.misses })
+LoadLeaves name (Err Failed) old new = NextFails old.calls × (new ≡ record old { calls = one_failed old.calls })
+LoadLeaves name (Err TooLong) old new =
+    IsTooLong name old.files × (new ≡ record old { calls = one_more old.calls; longs = raised old.longs })
+LoadLeaves name (Err Memory) old new = new ≡ record old { calls = one_more old.calls }

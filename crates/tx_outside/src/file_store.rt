@@ -1,5 +1,5 @@
 // Where files are stored.
-ghost use Rattle.std.specs.Prelude.{◌≡◌, ◌≤◌, [], Some};
+ghost use Rattle.std.specs.Prelude.{◌≡◌, ◌≤◌, ℕ, List, [], Some, Result};
 ghost use Rattle.std.specs.Prelude.{length, OnOk, OnErr, IfSome, IsErrOf};
 ghost use Rattle.tx_outside.specs.Counts.{Rose};
 ghost use Rattle.tx_outside.specs.Files.{IsAbsent, IsTooLong, NamesDiffer, OthersKept, WithFile, file_of};
@@ -13,10 +13,16 @@ pub const MOST_FILE: usize = 16_777_216;
 
 /// A store of files, which are known by their names.
 pub trait Store {
+    ghost use Rattle.tx_outside.specs.declared.faults.LoadFault.{LoadFault};
+
     /// The name and the bytes of each file, where the store reports them; no two names are equal. How often the store
     /// has failed, how often a file that was asked for wasn't there, and how often one was too long: numbers up to
     /// 2^64 - 1 that never fall.
     ghost seen: { Self → StoreSeen };
+
+    /// What a call of `load` leaves: asked for this name it returned this, and made the second store of the first. So a
+    /// function over any store tells by a chain of such steps which files it asked for, and in which order.
+    ghost load_leaves: { List ℕ → Result (Unit {0}) LoadFault → Self → Self → Type 0 };
 
     /// Puts the bytes of the file of that name, at most `MOST_FILE`, into `out`, which is empty. After
     /// every fault it is empty again. No file changes.
@@ -25,6 +31,7 @@ pub trait Store {
         ensures loaded { OnOk result (IfSome (seen self.old).files (λ all. file_of all name.now ≡ Some out.new.items)) }
         ensures within_limit { OnOk result (length out.new.items ≤ MOST_FILE) }
         ensures fault_empties { OnErr result (out.new.items ≡ []) }
+        ensures leaves { load_leaves name.now result self.old self.new }
 
         // Each fault but `Memory` has a count that rose, and two say something of the stored files.
         ensures missing_rose { IsErrOf result LoadFault.Missing → Rose (seen self.old).misses (seen self.new).misses }

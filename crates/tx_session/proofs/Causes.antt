@@ -440,18 +440,6 @@ served_complete failed statuses.Refused start last told rest before after script
 served_complete failed statuses.StoreFault start last told rest before after script s e can i o = absurd s.played
 
 module _ (old new : StoreSeen) where
-  pub caused_of : (o : OpenOutcome) → ((word : List ℕ) → o ≡ missing word → Rose old.misses new.misses)
-      → ((word : List ℕ) → o ≡ too_long word → Rose old.longs new.longs)
-      → ((word : List ℕ) → o ≡ store_fault word → Rose old.faults new.faults) → IsCaused old new o
-  caused_of faulty_words m l f = tt
-  caused_of (missing word) m l f = m word refl
-  caused_of (too_long word) m l f = l word refl
-  caused_of (no_tree word c) m l f = tt
-  caused_of (store_fault word) m l f = f word refl
-  caused_of no_memory m l f = tt
-  caused_of (opened all) m l f = tt
-  caused_of (generated all) m l f = tt
-
   missed : (o : OpenOutcome) → IsCaused old new o → status_of o ≡ statuses.Missing → Rose old.misses new.misses
   missed faulty_words c e = cc
   missed (missing word) c e = c

@@ -9,6 +9,7 @@ pub mod Ending
 pub mod Lining
 pub mod Openings
 pub mod Causes
+pub mod EarlyEnds
 pub mod Alone
 pub mod Answering
 pub mod Determined

@@ -19,4 +19,5 @@ pub mod Slices
 pub mod Outcomes
 pub mod Runs
 pub mod Playing
+pub mod EarlyEnds
 pub mod Savings

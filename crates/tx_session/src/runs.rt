@@ -19,6 +19,7 @@ ghost use Rattle.tx_session.specs.Differences.{EndsAtOpening, HoldSameFiles, Suf
 ghost use Rattle.tx_session.specs.Playing.{IsUnopenedLine, IsServed, IsServedAlone};
 ghost use Rattle.tx_session.specs.Scripts.{Answered};
 ghost use Rattle.tx_session.specs.Worlds.{LineMark, WholeSession, World, RoseBy, unsaved_in, untold, world};
+ghost use Rattle.tx_session.specs.EarlyEnds.{HasOpenedNothing};
 ghost use Rattle.tx_session.specs.declared.status.Status.{Status};
 
 use crate::fixed_script::{FixedScript, GENERATED_SCRIPT};
@@ -225,6 +226,8 @@ pub fn run<S: Store, I: Source, O: Sink, L: Ledger>(
     ensures words_only { AreFaulty (map string_bytes words.now)
         → (result ≡ Status.Words) ⊎ (result ≡ Status.NoMemory) ⊎ (result ≡ Status.OutputFault) }
     ensures missing_counted { result ≡ Status.Missing → Rose (S.seen store.old).misses (S.seen store.new).misses }
+    ensures loads { EndsAtOpening result → HasOpenedNothing S.load_leaves S.seen (map string_bytes words.now) result
+        store.old store.new (O.seen out.old).written (O.seen out.new).written }
     ensures refused { result ≡ Status.Refused
         → IsFileRefused (map string_bytes words.now) (S.seen store.old) (S.seen store.new) }
     ensures store_fault_counted { result ≡ Status.StoreFault

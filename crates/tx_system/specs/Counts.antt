@@ -1,6 +1,9 @@
 -- What a store over files has counted.
-use Rattle.std.specs.Prelude.{ℕ, None}
+use Rattle.std.specs.Prelude.{◌≡◌, ℕ, List, None, Result, Ok, Err}
+use Rattle.tx_outside.specs.Counts.{raised}
 use Rattle.tx_outside.specs.Outside.{StoreSeen}
+use Rattle.tx_outside.specs.declared.faults.LoadFault.{LoadFault}
+use Rattle.tx_outside.specs.declared.faults.LoadFault.TheVariants.{Missing, Failed, TooLong, Memory}
 use Rattle.tx_system.specs.declared.file_store.FileStore.{FileStore}
 
 -- how often the store has failed
@@ -24,3 +27,11 @@ seen_files store =
       misses = misses_of store;
       longs = longs_of store;
     }
+
+-- What a load leaves of a store over files, by what it returned: its fault is counted.
+abbrev pub LoadLeaves : {R : Type 0} → List ℕ → Result (Unit {0}) LoadFault → (old new : FileStore R) → Type 0
+LoadLeaves name (Ok done) old new = new ≡ old
+LoadLeaves name (Err Missing) old new = new ≡ record old { misses = raised old.misses }
+LoadLeaves name (Err Failed) old new = new ≡ record old { faults = raised old.faults }
+LoadLeaves name (Err TooLong) old new = new ≡ record old { longs = raised old.longs }
+LoadLeaves name (Err Memory) old new = new ≡ old

@@ -4,7 +4,7 @@ ghost use Rattle.tx_outside.specs.Counts.{Rose};
 ghost use Rattle.tx_outside.specs.Files.{IsAbsent, IsTooLong, NamesDiffer, OthersKept, WithFile, file_of};
 ghost use Rattle.tx_outside.specs.Known.{WhereKnown};
 ghost use Rattle.tx_outside.specs.Outside.{StoreGoesOn};
-ghost use Rattle.tx_system.specs.Counts.{faults_of, longs_of, misses_of, seen_files};
+ghost use Rattle.tx_system.specs.Counts.{LoadLeaves, faults_of, longs_of, misses_of, seen_files};
 ghost use Rattle.tx_system.specs.Bytes.{AreAllOf, AreGivenTo};
 
 use crate::counts::raised;
@@ -75,6 +75,8 @@ impl<'a, R: Files> FileStore<'a, R> {
 impl<R: Files> Store for FileStore<'_, R> {
     ghost seen = { λ store. seen_files store };
 
+    ghost load_leaves = { λ name result old new. LoadLeaves name result old new };
+
     /// Reads the file of that name to its end, at most `MOST_FILE` bytes.
     fn load(&mut self, name: &[u8], out: &mut Vec<u8>) -> Result<(), LoadFault>
         requires { out.old.items ≡ [] }
@@ -85,6 +87,7 @@ impl<R: Files> Store for FileStore<'_, R> {
             (λ all. file_of all name.now ≡ Some out.new.items)) }
         ensures within_limit { OnOk result (length out.new.items ≤ MOST_FILE) }
         ensures fault_empties { OnErr result (out.new.items ≡ []) }
+        ensures leaves { LoadLeaves name.now result self.old self.new }
         ensures missing_rose { IsErrOf result LoadFault.Missing → Rose (misses_of self.old) (misses_of self.new) }
         ensures missing_absent { IsErrOf result LoadFault.Missing
             → IfSome (seen_files self.old).files (IsAbsent name.now) }

@@ -11,3 +11,4 @@ pub mod Exchanged
 pub mod OneUnit
 pub mod Pairs
 pub mod Spelled
+pub mod Bases

@@ -1,11 +1,11 @@
 // What holds of all units.
-ghost use Rattle.std.specs.Prelude.{◌≡◌, ◌≤◌, ◌<◌, ◌^◌, ℕ, List, length, take};
+ghost use Rattle.std.specs.Prelude.{◌≡◌, ◌+◌, ◌≤◌, ◌<◌, ◌^◌, ℕ, List, length, take};
 ghost use Rattle.std.specs.List.{AllByRecursion};
 ghost use Rattle.tx_tree.specs.WideTree.{WideTree};
 ghost use Rattle.tx_doc.specs.declared.buffer.Buffer.{Buffer as Named};
 ghost use Rattle.tx_units.specs.Inside.{ChangesOne};
 ghost use Rattle.tx_units.specs.Places.{UnitStandsIn, NoneBegins};
-ghost use Rattle.tx_units.specs.Units.{base_units, body_units, units, units_over};
+ghost use Rattle.tx_units.specs.Units.{base_units, body_units, units, units_over, nodes_made, made, made_over};
 
 use crate::base::BASE_UNITS;
 use tx_doc::{Buffer, formed_law};
@@ -19,11 +19,12 @@ pub fn unit_count_law(buffers: &[Buffer])
 }
 
 /// A law: the base style has `BASE_UNITS` units, and they are the first of the units of any buffers. The units over them
-/// are all units.
+/// are all units, and what all are made of is what these are made of and what the others are.
 pub fn base_law()
     ensures count { length base_units ≡ BASE_UNITS }
     ensures first { (buffers : List Named) → take BASE_UNITS (units buffers) ≡ base_units }
     ensures over { (buffers : List Named) → units_over base_units buffers ≡ units buffers }
+    ensures made { (buffers : List Named) → made buffers ≡ nodes_made base_units + made_over buffers }
 {}
 
 /// A law: the units of a body are paragraphs of the document, with its root as origin, and their trees are at their

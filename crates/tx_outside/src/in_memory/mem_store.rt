@@ -3,7 +3,7 @@ ghost use Rattle.std.specs.Prelude.{◌≡◌, ◌↔◌, ◌≤◌, [], Some};
 ghost use Rattle.std.specs.Prelude.{length, OnOk, OnErr, IsErrOf, option_copied};
 ghost use Rattle.tx_outside.specs.Counts.{Rose, raised};
 ghost use Rattle.tx_outside.specs.Files.{IsAbsent, IsTooLong, NamesDiffer, WithFile, file_of};
-ghost use Rattle.tx_outside.specs.InMemory.{NextFails, no_calls, one_more, one_failed, seen_store};
+ghost use Rattle.tx_outside.specs.InMemory.{LoadLeaves, NextFails, no_calls, one_more, one_failed, seen_store};
 ghost use Rattle.tx_outside.specs.Outside.{StoreGoesOn};
 
 use super::call_numbers::Calls;
@@ -59,6 +59,8 @@ impl MemStore {
 impl Store for MemStore {
     ghost seen = { seen_store };
 
+    ghost load_leaves = { LoadLeaves };
+
     /// Every call takes a number, whatever it returns.
     fn load(&mut self, name: &[u8], out: &mut Vec<u8>) -> Result<(), LoadFault>
         requires { out.old.items ≡ [] }
@@ -85,6 +87,7 @@ impl Store for MemStore {
             → self.new ≡ record self.old { calls = one_more self.old.calls; longs = raised self.old.longs } }
         ensures memory_store { IsErrOf result LoadFault.Memory
             → self.new ≡ record self.old { calls = one_more self.old.calls } }
+        ensures leaves { LoadLeaves name.now result self.old self.new }
 
         // The trait's clauses on the counts and the names.
         ensures missing_rose { IsErrOf result LoadFault.Missing → Rose self.old.misses self.new.misses }

@@ -4,6 +4,7 @@ use Rattle.tx_words.specs.declared.asked.Source.TheVariants.{Files as AllFiles, 
 use Rattle.tx_words.specs.Words.{Ask, AreFaulty, IfFiles, AreNamedApart}
 use Rattle.tx_open.specs.Openings.{failed_as}
 use Rattle.tx_open.proofs.Complete.{asks, comes_from, fault_caused, is_opened, long_caused, missing_caused}
+use Rattle.tx_open.proofs.Loads.{asked_from, caused_up_to}
 use Rattle.tx_open.proofs.Reading.{as_many, names_differ}
 use Rattle.tx_open.proofs.opening.open.Goals as goal
 
@@ -41,7 +42,8 @@ returns-in-Files-clause-complete g c = λ can fine.
     let before = g.S.Store.seen c.args.store.now in
     let after = g.S.Store.seen c.read_files.new.store in
     let outcome = failed_as c.in-Err.failure in
-    let caused = c.in-Err.ensures.caused in
+    let caused = caused_up_to g.S.Store.load_leaves g.S.Store.seen c.args.store.now c.read_files.new.store
+    c.in-Files.files outcome c.in-Err.ensures.last in
     let ask = subst (λ s. Ask words c.in-Ok.asked.width c.in-Ok.asked.height s) c.in-Files.is c.in-Ok.ensures.asked in
     is_opened words (c.one_asking.ensures words) files c.from.result can
     (comes_from words files c.in-Ok.asked.width c.in-Ok.asked.height c.in-Files.files ask
@@ -49,6 +51,14 @@ returns-in-Files-clause-complete g c = λ can fine.
     (λ word e. fine.no_misses (missing_caused before after outcome caused word (sym c.from.ensures.0 ∙ e)))
     (λ word e. fine.no_longs (long_caused before after outcome caused word (sym c.from.ensures.0 ∙ e)))
     (λ word e. fine.no_faults (fault_caused before after outcome caused word (sym c.from.ensures.0 ∙ e)))
+
+pub returns-in-Files-clause-loads : goal.returns-in-Files-clause-loads
+returns-in-Files-clause-loads g c =
+    let words = map (string_bytes {Z = Global}) c.args.words.now in
+    let ask = subst (λ s. Ask words c.in-Ok.asked.width c.in-Ok.asked.height s) c.in-Files.is c.in-Ok.ensures.asked in
+    asked_from g.S.Store.load_leaves g.S.Store.seen c.args.store.now c.read_files.new.store words
+    c.in-Ok.asked.width c.in-Ok.asked.height c.in-Files.files ask c.from.result c.in-Err.failure c.from.ensures.0
+    c.in-Err.ensures.last
 
 -- ---- a generated document
 

@@ -4,9 +4,11 @@ use Rattle.tx_outside.proofs.GoingOn.{source_goes_on_refl, store_goes_on_then}
 use Rattle.tx_words.specs.declared.asked.Source.TheVariants.{Files as AllFiles, Generated as FromNumber}
 use Rattle.tx_open.specs.Openings.{open_outcome}
 use Rattle.tx_open.specs.Outcomes.{faulty_words}
+use Rattle.tx_open.proofs.Loads.{caused_by_loads}
 use Rattle.tx_session.specs.Worlds.{KeepsFiles}
-use Rattle.tx_session.proofs.Causes.{caused_of, line_run, opens_not, unopened_causes, unopened_run, whole_run}
+use Rattle.tx_session.proofs.Causes.{line_run, opens_not, unopened_causes, unopened_run, whole_run}
 use Rattle.tx_session.proofs.Alone.{generated_run}
+use Rattle.tx_session.proofs.EarlyEnds.{opened_nothing}
 use Rattle.tx_session.proofs.runs.run.Goals as goal
 
 pub returns-in-Opened-clause-run : goal.returns-in-Opened-clause-run
@@ -33,6 +35,9 @@ returns-in-Opened-clause-words_only g c =
 pub returns-in-Opened-clause-missing_counted : goal.returns-in-Opened-clause-missing_counted
 returns-in-Opened-clause-missing_counted g c =
     λ e. absurd (opens_not c.run_opened.result _ c.run_opened.ensures.served e tt)
+
+pub returns-in-Opened-clause-loads : goal.returns-in-Opened-clause-loads
+returns-in-Opened-clause-loads g c = λ ends. absurd (c.run_opened.ensures.served ends)
 
 pub returns-in-Opened-clause-refused : goal.returns-in-Opened-clause-refused
 returns-in-Opened-clause-refused g c = λ e. absurd (opens_not c.run_opened.result _ c.run_opened.ensures.served e tt)
@@ -92,6 +97,9 @@ pub returns-in-Generated-clause-missing_counted : goal.returns-in-Generated-clau
 returns-in-Generated-clause-missing_counted g c =
     λ e. absurd (opens_not c.run_alone.result _ c.run_alone.ensures.served e tt)
 
+pub returns-in-Generated-clause-loads : goal.returns-in-Generated-clause-loads
+returns-in-Generated-clause-loads g c = λ ends. absurd (c.run_alone.ensures.served ends)
+
 pub returns-in-Generated-clause-refused : goal.returns-in-Generated-clause-refused
 returns-in-Generated-clause-refused g c = λ e. absurd (opens_not c.run_alone.result _ c.run_alone.ensures.served e tt)
 
@@ -123,6 +131,13 @@ returns-in-FaultyWords-clause-run g c =
     (g.O.Sink.seen c.finish.new.out) (c.open-opening.ensures.files_kept, c.open-opening.ensures.store_goes_on) tt
     (λ all. ((λ e. cc), (λ e. cc))) c.in-FaultyWords.ensures.comes c.finish.ensures.done c.finish.ensures.cut
 
+pub returns-in-FaultyWords-clause-loads : goal.returns-in-FaultyWords-clause-loads
+returns-in-FaultyWords-clause-loads g c =
+    opened_nothing g.S.Store.load_leaves g.S.Store.seen _ c.finish.result c.args.store.now c.open-opening.new.store
+    (g.O.Sink.seen c.args.out.now).written (g.O.Sink.seen c.finish.new.out).written faulty_words
+    c.in-FaultyWords.ensures.comes c.in-FaultyWords.ensures.loads
+    (inl (record { done = c.finish.ensures.done; cut = c.finish.ensures.cut }))
+
 pub returns-in_default : goal.returns-in_default
 returns-in_default g c =
     let before = g.S.Store.seen c.args.store.now in
@@ -131,8 +146,8 @@ returns-in_default g c =
     let later = g.O.Sink.seen c.report.new.out in
     let words = map (string_bytes {Z = Global}) c.args.words.now in
     let kept : KeepsFiles before after = (c.open-opening.ensures.files_kept, c.open-opening.ensures.store_goes_on) in
-    let caused = caused_of before after (open_outcome c.open-opening.result) c.open-opening.ensures.missing_counted
-    c.open-opening.ensures.long_counted c.open-opening.ensures.fault_counted in
+    let caused = caused_by_loads g.S.Store.load_leaves g.S.Store.seen c.args.store.now c.open-opening.new.store words
+    (open_outcome c.open-opening.result) c.open-opening.ensures.loads in
     let run = unopened_run words before after c.args.steps.now c.open-opening.new.steps c.open-opening.result
     c.report.result written later kept c.open-opening.ensures.comes caused c.in_default.not-FaultyWords
     c.in_default.not-Opened c.in_default.not-Generated c.report.ensures.line (g.I.Source.seen c.args.input.now) in
@@ -144,6 +159,10 @@ returns-in_default g c =
       words = λ e. absurd (cause.not_words e);
       words_only = cause.words_only;
       missing_counted = cause.missing_counted;
+      loads =
+          opened_nothing g.S.Store.load_leaves g.S.Store.seen words c.report.result c.args.store.now
+          c.open-opening.new.store written.written later.written (open_outcome c.open-opening.result)
+          c.open-opening.ensures.comes c.open-opening.ensures.loads c.report.ensures.line;
       refused = cause.refused;
       store_fault_counted = cause.fault_counted;
       input_fault_counted = λ e. absurd (cause.not_input e);

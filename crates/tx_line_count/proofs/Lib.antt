@@ -1,0 +1,7 @@
+mod Trees
+mod Primitives
+mod Names
+mod Parts
+mod Evaluating
+mod UnitTrees
+mod Counting

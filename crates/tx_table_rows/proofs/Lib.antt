@@ -1,0 +1,5 @@
+mod Showing
+mod Fitting
+mod Filling
+mod Standing
+mod Worked

@@ -1,0 +1,3 @@
+pub mod GridRows
+pub mod RowLines
+pub mod TableUnits
