@@ -7,7 +7,7 @@ pub mod ShownWeights
 mod Parting
 mod Single
 mod ClusterCuts
-mod ShownItems
+pub mod ShownItems
 mod Marking
 mod OnLines
 mod Shortness
