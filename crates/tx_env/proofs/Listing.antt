@@ -56,6 +56,6 @@ all_after ps (q ∷ qs) h =
     ∙ all_after (ps ++ q ∷ []) qs (subst (λ us. IsDistinct bytes_eq (keys_of us)) (sym (append_assoc ps (q ∷ []) qs)) h)
     ∙ append_assoc ps (q ∷ []) qs
 
--- pairs of which each name stands once, put one by one into an empty list, are the same pairs
+-- pairs in which each name is listed once, put one by one into an empty list, are the same pairs
 pub all_inserted : (ps : Pairs) → IsDistinct bytes_eq (keys_of ps) → insert_all bytes_eq [] ps ≡ ps
 all_inserted ps h = all_after [] ps h
