@@ -59,11 +59,11 @@ marks_within b ps = marks_of (flat_map (λ p. p.items) (map (paragraph_under b) 
 abbrev pub marks_in : List WideStretch → List Mark
 marks_in ss = marks_of (items_on (flat_map stretch_lines ss))
 
--- those of paragraphs, also of such that have no line
+-- the marks of the paragraphs, including those without a line
 abbrev pub all_marks_in : List WideStretch → List Mark
 all_marks_in ss = marks_of (flat_map (λ p. p.items) (flat_map stretch_paragraphs ss))
 
--- those of two lists are those of one and then of the other
+-- the marks of two lists are those of the first and then of the second
 abbrev pub AreJoined : {X : Type 0} → (List X → List Mark) → Type 0
 AreJoined {X} M = (xs ys : List X) → M (xs ++ ys) ≡ M xs ++ M ys
 
