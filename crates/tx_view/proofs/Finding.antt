@@ -103,7 +103,7 @@ all_join ss ts =
     ap (λ ps. marks_of (flat_map (λ p. p.items) ps)) (flat_map-append stretch_paragraphs ss ts)
     ∙ paragraphs_join (flat_map stretch_paragraphs ss) (flat_map stretch_paragraphs ts)
 
--- those of one
+-- the marks of one line
 pub one_line : (b : List ℕ) (l : Line) (xs : List Item) → xs ≡ l.items → marks_under b xs ≡ marks_on b (l ∷ [])
 one_line b l xs e = ap (marks_under b) e ∙ ap marks_of (sym (append-nil (map (item_under b) l.items)))
 
