@@ -34,7 +34,7 @@ put_last [] x t h = refl
 put_last (p ∷ ps) x t h =
     ap (λ b. if b then (p.0, t) ∷ ps else p ∷ put x t ps) (differs p.0 x h.0) ∙ ap (λ us. p ∷ us) (put_last ps x t h.1)
 
--- of names that differ, those before one differ from it
+-- where names differ, those before one differ from it
 apart_at : (x : Name) (ps qs : Pairs) (q : Name × Option WideTree)
     → AllByRecursion (λ y. bytes_eq x y ≡ false) (keys_of (ps ++ q ∷ qs)) → bytes_eq x q.0 ≡ false
 apart_at x [] qs q h = h.0
