@@ -19,7 +19,7 @@ whole_front P bytes h = (
   ([], subst P (sym (append-nil (take (length bytes) bytes) ∙ take_all (length bytes) bytes (omega arith))) h),
 )
 
--- where the bytes can be continued, and not with the next byte too
+-- where the first bytes can be continued, but not with the next byte, they are the longest front
 pub ends_before : (P : List ℕ → Type 0) (bytes : List ℕ) (i : ℕ) → i < length bytes
     → (more : List ℕ) × P (take i bytes ++ more) → ((more : List ℕ) → P (take (i + 1) bytes ++ more) → ⊥)
     → IsLongestFront P bytes i × (P bytes → ⊥)
@@ -37,7 +37,7 @@ ends_before P bytes i lt front stops = (
         let t = take_less bytes (i + 1) m (omega arith) in
         stops (t.0 ++ more) (subst P (ap (λ x. x ++ more) t.1 ∙ append_assoc (take (i + 1) bytes) t.0 more) h)
 
--- where all bytes can be continued, and are none themselves
+-- where all bytes can be continued, but aren't whole themselves, all of them are the longest front
 pub ends_behind : (P : List ℕ → Type 0) (bytes : List ℕ) → (more : List ℕ) × P (bytes ++ more) → (P bytes → ⊥)
     → IsLongestFront P bytes (length bytes) × (P bytes → ⊥)
 ends_behind P bytes front none = (

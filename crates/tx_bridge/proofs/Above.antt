@@ -40,7 +40,7 @@ rest_in_is u place rest e = by u.path refl
 pub in_rest : (u : DocUnit) (p rest : List ℕ) → u.path ≡ Some p → rest_in u (p ++ rest) ≡ Some rest
 in_rest u p rest is = ap (option_and_then (λ q. rest_behind q (p ++ rest))) is ∙ rest_own p rest
 
--- of two units that are apart at most one has the place
+-- at most one of two units that are apart has the place
 never_both : (u v : DocUnit) (place r s : List ℕ) → AreApart u.path v.path → rest_in u place ≡ Some r
     → rest_in v place ≡ Some s → ⊥
 never_both u v place r s apart e f =

@@ -387,7 +387,7 @@ module _ (i : ℕ) (ms : List Mod) (t u x : WideTree) (us : List DocUnit) (made 
           sym (no_rest_of s.kept.path p f) ∙ ap (rest_behind s.kept.path) is ∙ rest_own s.kept.path a in
           cc
 
-  -- and one whose tree holds the unit is carried nowhere
+  -- a stray whose tree holds the unit is carried nowhere
   holding_goes : (s : Stray) → NoneAbove s.kept.path us → is_beside (path_at i us) s.kept.path ≡ false
       → carried_by_all ms t s.kept.path ≡ None
   holding_goes s h e = by_front (begins_path s.kept.path p) refl

@@ -469,7 +469,7 @@ module _ (ms : List Mod) (t w : WideTree) (us vs : List DocUnit) (pss : List Kep
     (law : (m : Mod) (s : WideTree) (q : List ℕ) → CarriesSubtree m s q) (made : changed_by_all ms t ≡ Some w)
     (stand : AllStand t us) (apart : NoneBegins us) (hold : AllHoldParts ms t vs us pss) (aside : HoldAside t us ks)
   where
-    -- those of this number
+    -- what has arrived in the unit of this number
     arrived_as : (j : ℕ) → arrived (part_moves 0 ms t us pss ks vs) j
         ≡ filter_map (λ e. option_and_then (kept_in_unit j) (goes ms t vs e)) (everything ms t vs us pss ks)
     arrived_as j =

@@ -54,7 +54,7 @@ rest_own (i ∷ q) s =
 heads : (i k : ℕ) (xs ys : List ℕ) → i ∷ xs ≡ k ∷ ys → (i ≡ k) × (xs ≡ ys)
 heads i k xs ys e = (cc, cc)
 
--- of two fronts of one path one is a front of the other
+-- one of two fronts of a path is a front of the other
 pub fronts_meet : (q r s x : List ℕ) → q ++ s ≡ r ++ x → IsNoFront q r → IsNoFront r q → ⊥
 fronts_meet [] r s x e f g = f r refl
 fronts_meet (i ∷ q) [] s x e f g = g (i ∷ q) refl

@@ -7,7 +7,7 @@ use Rattle.tx_tree.specs.WideTree.{WideTree}
 use Rattle.tx_mod.specs.declared.mods.Mod.{Mod}
 use Rattle.tx_bridge.specs.Carrying.{through}
 
--- of each there is none
+-- None for each place
 abbrev pub none_of : List (Option (List ℕ)) → List (Option (List ℕ))
 none_of places = map (λ q. None) places
 

@@ -26,7 +26,7 @@ module _ {A : Type 0} where
   put_past i (o ∷ os) x xs h =
       ap (λ b. if b then and_some o.1 (put_from (i + 1) os xs) else x ∷ put_from (i + 1) (o ∷ os) xs) h
 
-  -- and for one of this number another one is put
+  -- for an element of this number another one is put
   pub put_here : (i : ℕ) (o : ℕ × Option A) (os : List (ℕ × Option A)) (x : A) (xs : List A) → o.0 == i ≡ true
       → put_from i (o ∷ os) (x ∷ xs) ≡ and_some o.1 (put_from (i + 1) os xs)
   put_here i o os x xs h =

@@ -184,7 +184,7 @@ read (u ∷ us) (ps ∷ pss) ks q many = by (rest_in u q) refl (read us pss ks q
         none zero v f = ap (λ (w : DocUnit). rest_in w q) (sym (same_Some u v f)) ∙ e
         none (suc k) v f = h.outside k v f
 
--- of two units that are apart at most one has the place
+-- at most one of two units that are apart has the place
 never_both : (o r : Option (List ℕ)) (u v : DocUnit) (q a b : List ℕ) → AreApart o r → u.path ≡ o → v.path ≡ r
     → rest_in u q ≡ Some a → rest_in v q ≡ Some b → ⊥
 never_both o r u v q a b apart is_o is_r e f =

@@ -202,7 +202,7 @@ held_parts ms t vs (b ∷ bs) h = (
   held_parts ms t vs bs h.1,
 )
 
--- of the unit of number j
+-- the unit is sound with the parts that arrive at number j
 Fits : List PartMove → ℕ → DocUnit → Type 0
 Fits ps j u = IsSoundBridge (joined_by (arrived_parts ps j) (fresh_bridge u))
 

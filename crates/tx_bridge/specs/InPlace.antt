@@ -53,7 +53,7 @@ pub record IsOneChanged (i buffer : ℕ) (ms : List Mod) (us : List DocUnit) : T
 abbrev pub NoneChanged : ℕ → List Mod → List DocUnit → Type 0
 NoneChanged buffer ms us = buffer ≡ 0 → (i : ℕ) (u : DocUnit) → slice_get us i ≡ Some u → is_changed ms u ≡ false
 
--- of n units, from number k on, each has its number, but number i has none
+-- the numbers of n units, from number k on, where number i has none
 abbrev pub numbers_but : ℕ → ℕ → ℕ → List (Option ℕ)
 numbers_but i k zero = []
 numbers_but i k (suc n) = (if k == i then None else Some k) ∷ numbers_but i (k + 1) n

@@ -20,12 +20,13 @@ abbrev pub stands_before : ℕ → List ℕ → Bool
 stands_before i [] = false
 stands_before i (k ∷ u) = nat_lt k i
 
--- of child i, the places in its children before child j are unchanged
+-- unchanged by a split of child i at j: a place in a child before child i, or in child i and there in a child before
+-- child j
 abbrev pub keeps_by_split : ℕ → ℕ → List ℕ → Bool
 keeps_by_split i j [] = false
 keeps_by_split i j (k ∷ u) = nat_lt k i || k == i && stands_before j u
 
--- of child i, the places below it are unchanged
+-- unchanged by a join of child i and the next one: a place in a child before child i, or below child i
 abbrev pub keeps_by_join : ℕ → List ℕ → Bool
 keeps_by_join i [] = false
 keeps_by_join i (k ∷ u) = nat_lt k i || k == i && is_below u

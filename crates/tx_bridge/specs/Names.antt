@@ -27,7 +27,7 @@ use Rattle.tx_bridge.specs.Strays.{Stray, kept_strays, strays_beside}
 unfoldable pub EmptyTraces : List DocUnit → Kept
 EmptyTraces us = nothing_kept us
 
--- nor of their parts
+-- nothing is cached of the parts of these units
 unfoldable pub EmptyParts : List DocUnit → List KeptParts
 EmptyParts us = map (λ u. []) us
 
@@ -124,7 +124,7 @@ CarryLayers layers sources = map (layers_now layers) sources
 unfoldable pub StraysBeside : ℕ → List DocUnit → List Stray → List Stray
 StraysBeside i us strays = strays_beside i us strays
 
--- of the units afterwards, which one of those before each is
+-- for each unit afterwards, the number of the old unit that it is, or none
 unfoldable pub Sources : ℕ → List Mod → WideTree → List DocUnit → List DocUnit → List (Option ℕ)
 Sources buffer ms t us vs = sources (mods_of buffer ms) t us vs
 

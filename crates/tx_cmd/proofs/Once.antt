@@ -414,7 +414,7 @@ refused_loose line f h =
     (loose_tail (arguments_of h.0) h.1 loose) in
     ((h.0, is), (h.0, h.1, is, loose, h.2 ∙ ap (λ x. x ++ h.1) (sym is)))
 
--- and so has a command
+-- a command has the form of a command
 command_loose : (line : List ℕ) (c : Command) → IsCommand line c
     → IsKnown (up_to_space line) × IsLoose (up_to_space line) line
 command_loose line c h =

@@ -125,8 +125,7 @@ word_is word rest line e h t =
     (one_piece (up_to_space line) word w.0 rest (sym w.2 ∙ e) (before_space line) h w.1 t).0
 
 -- Where a front of piece and rest goes on to another piece and its rest, the front ends within the piece and the other
--- piece goes
--- on from there, or the pieces are one.
+-- piece goes on from there, or the pieces are one.
 abbrev pub GoesOn : List ℕ → List ℕ → ℕ → List ℕ → List ℕ → List ℕ → Type 0
 GoesOn piece rest m more q s =
     ((m ≤ length piece) × ((x : List ℕ) × (q ≡ take m piece ++ x))) ⊎

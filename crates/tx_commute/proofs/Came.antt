@@ -31,7 +31,7 @@ use Rattle.tx_commute.proofs.Pieces.{piece, put_in_is, get_left, get_right, get_
 use Rattle.tx_commute.proofs.Pieces.{get_behind}
 use Rattle.tx_commute.proofs.Made.{split_parts, join_parts}
 
--- z stands at q, which is carried to r
+-- z is at q, which is carried to r
 abbrev pub Came : Mod → WideTree → WideTree → List ℕ → Option (List ℕ) → Type 0
 Came m s z r o = (q : List ℕ) → o ≡ Some q → (subtree s q ≡ Some z) × (carried_at m s q ≡ Some r)
 

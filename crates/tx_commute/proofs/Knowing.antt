@@ -1,4 +1,4 @@
--- Modifications with their inverses are taken past each other as the modifications are, and stay with their inverses.
+-- Modifications with their inverses are taken past each other as the modifications are, and still have their inverses.
 use Rattle.std.proofs.Common.{◌≡◌, ℕ, ◌+◌, ◌-◌, leb, ◌<◌, ◌≤◌, Bool, true, false, List, [], ◌∷◌, ◌++◌, length, Option, Some, None, Ok}
 use Rattle.std.proofs.Common.{refl, sym, ap, subst, ◌∙◌, arith}
 use Rattle.std.specs.Prelude.{if◌then◌else◌, option_and_then, option_map, is_some, slice_get}
@@ -100,7 +100,7 @@ inverse_at_path (AssignNode p l) s q = refl
 inverse_at_path (InsertNode p i x) s q = refl
 inverse_at_path (RemoveNode p i) s q = refl
 
--- the inverse at another path where the same subtree stands
+-- the inverse at another path where the same subtree is
 inverse_elsewhere : (m : Mod) (t s : WideTree) (q : List ℕ) → subtree t q ≡ Some s
     → inverse_of (at_path m q) t ≡ at_path (inverse_at m s) q
 inverse_elsewhere m t s q f =

@@ -229,7 +229,7 @@ lists_first later k whole q d bs h inside is =
     list_applies bs (drop (k + 1) later) q.present
     (subst (λ ls. IsOk (lists_in_turn ls q.present)) (element_first later k d bs inside is) h.turn)
 
--- what comes of the lists, from the course of the next one
+-- the result of the lists, from the course of the next one
 next_left : (later : List (List Mod)) (k : ℕ) (whole : LeftOut) (q : Midway) (d bs : List Mod) (c : Course)
     → ArePassed later k whole q → k < length later → bs ≡ slice_index_or later k d → course bs q ≡ c
     → whole ≡ go_on (leave_from (drop (k + 1) later) (k + 1)) k c

@@ -37,7 +37,7 @@ drop_back {X} xs ys i m k n le within is =
     drop_twice : {X : Type 0} (zs : List X) (a b : ℕ) → drop b (drop a zs) ≡ drop (a + b) zs
     drop_twice zs a b = drop-drop b a zs
 
--- what stands from place j to before place l
+-- what is from place j to before place l
 abbrev pub between : {X : Type 0} → List X → ℕ → ℕ → List X
 between xs j l = take (l - j) (drop j xs)
 
@@ -101,7 +101,7 @@ pub record Cutting {X : Type 0} (C : List X → Type 0) : Type 0 where
   pub joins : (a b : List X) → C a → C b → C (a ++ b)
   pub rests : (a b : List X) → C (a ++ b) → C a → C b
 
--- ys may be put in place of what stands from i to before m
+-- ys may be put in place of what is from i to before m
 pub record Fits {X : Type 0} (C : List X → Type 0) (xs : List X) (i m : ℕ) (ys : List X) : Type 0 where
   pub order : i ≤ m
   pub within : m ≤ length xs
@@ -144,7 +144,7 @@ pub record InOrder {X : Type 0} (C : List X → Type 0) (xs ys : List X) (i m : 
   pub second : Fits C (piece xs i m ys) j k zs
   pub same : whole ≡ piece (piece xs i m ys) j k zs
 
--- the later piece stands before the earlier one
+-- the later piece is before the earlier one
 pub before_it : {X : Type 0} (C : List X → Type 0) → Cutting C → (xs ys zs : List X) (i m j k j' k' : ℕ)
     → Fits C xs j k zs → Fits C (piece xs j k zs) i m ys → m ≤ j
     → j' + m ≡ j + i + length ys → k' + m ≡ k + i + length ys
@@ -174,7 +174,7 @@ before_it {X} C c xs ys zs i m j k j' k' f g le is is' =
       same = pieces_apart xs ys zs i m j k j' k' o le o' w is is';
     }
 
--- the later piece stands behind the earlier one
+-- the later piece is after the earlier one
 pub behind_it : {X : Type 0} (C : List X → Type 0) → Cutting C → (xs ys zs : List X) (i m j k j' k' : ℕ)
     → Fits C xs i m ys → Fits C (piece xs i m ys) j' k' zs → i + length ys ≤ j'
     → j' + m ≡ j + i + length ys → k' + m ≡ k + i + length ys

@@ -1,5 +1,5 @@
--- A modification of a tree in which another subtree stands at a path that is carried: it makes the same, with that
--- subtree where the path is carried to.
+-- A modification of a tree that has another subtree at a path that is carried: it makes the same, with that subtree
+-- where the path is carried to.
 use Rattle.std.proofs.Common.{◌≡◌, ℕ, ◌+◌, ◌-◌, ◌<◌, ◌≤◌, Bool, true, false, leb, ltb, eqb, List, [], ◌∷◌, ◌++◌, length}
 use Rattle.std.proofs.Common.{Option, Some, None, Ok, refl, sym, ap, subst, ◌∙◌, arith}
 use Rattle.std.specs.Prelude.{slice_get, if◌then◌else◌, option_map}
@@ -25,7 +25,7 @@ use Rattle.tx_commute.proofs.Made.{insert_with, remove_with_front, remove_with_b
 use Rattle.tx_commute.proofs.Made.{join_with_front, join_with_back, label_with, wrap_with, unwrap_with}
 use Rattle.tx_commute.proofs.Below.{split_child_before, split_child_behind, join_child_left, join_child_right}
 
--- z stands where q is carried to, and with y in its place m makes v with y there
+-- z is where q is carried to, and with y in its place m makes v with y there
 abbrev pub Over : Mod → WideTree → WideTree → WideTree → WideTree → List ℕ → Option (List ℕ) → Type 0
 Over m s v y z q o =
     (r : List ℕ) → o ≡ Some r → (changed_at m (replaced s q y) ≡ Ok (replaced v r y)) × (subtree v r ≡ Some z)
@@ -42,7 +42,7 @@ over_some m s v y z q r g h r' e =
     same_path : (a b : List ℕ) → ◌≡◌ {A = Option (List ℕ)} (Some a) (Some b) → a ≡ b
     same_path a b g = cc
 
--- from a child to where it stands afterwards
+-- from a child to where it is afterwards
 over_child : (m : Mod) (s v y z c : WideTree) (k j : ℕ) (u : List ℕ) → subtree c u ≡ Some z → slice_get (children_of s) k ≡ Some c
     → slice_get (children_of v) j ≡ Some c
     → changed_at m (with_child_at s k (replaced c u y)) ≡ Ok (with_child_at v j (replaced c u y))
@@ -51,7 +51,7 @@ over_child m s v y z c k j u i f g h =
     over_some m s v y z (k ∷ u) (j ∷ u) (step_down v c j u g ∙ i)
     (ap (λ z. changed_at m z) (replaced_down s c k u y f) ∙ h ∙ ap (λ z. Ok z) (sym (replaced_down v c j u y g)))
 
--- from a child of a child to where that stands afterwards
+-- from a child of a child to where that is afterwards
 over_grandchild : (m : Mod) (s v y z c b d : WideTree) (k l j n : ℕ) (u : List ℕ) → subtree d u ≡ Some z → slice_get (children_of s) k ≡ Some c
     → slice_get (children_of c) l ≡ Some d → slice_get (children_of v) j ≡ Some b → slice_get (children_of b) n ≡ Some d
     → changed_at m (with_child_at s k (with_child_at c l (replaced d u y)))

@@ -1,4 +1,4 @@
--- A modification of a tree in which another subtree stands at a path that is carried.
+-- A modification of a tree that has another subtree at a path that is carried.
 use Rattle.std.proofs.Common.{◌≡◌, ℕ, List, ◌++◌, Option, Some, None, Ok, refl, sym, ap, subst, ◌∙◌}
 use Rattle.std.specs.Option.{option_map_or}
 use Rattle.tx_tree.specs.Paths.{subtree}
@@ -17,7 +17,7 @@ use Rattle.tx_commute.proofs.Over.{over_at}
 use Rattle.tx_commute.proofs.Routes.{freely_is, free_of, replaced_behind, replaced_apart, Route, below, aside, route}
 use Rattle.tx_commute.proofs.Routes.{carried_below, carried_aside}
 
--- what is made of t with y at q is u with y at r, where z stands in u
+-- what is made of t with y at q is u with y at r, where z is in u
 pub record Passes (m : Mod) (t u z y : WideTree) (q r : List ℕ) : Type 0 where
   pub made : freely m (replaced t q y) ≡ Some (replaced u r y)
   pub there : subtree u r ≡ Some z

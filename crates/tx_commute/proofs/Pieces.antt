@@ -7,7 +7,7 @@ use Rattle.std.proofs.lemmas.List.{set-append_right}
 use Rattle.std.proofs.Math.Seq.{take-set-lt}
 use Rattle.tx_mod.specs.Mods.{put_in}
 
--- the list with ys in place of what stands from place i to before place m
+-- the list with ys in place of what is from place i to before place m
 abbrev pub piece : {X : Type 0} → List X → ℕ → ℕ → List X → List X
 piece xs i m ys = take i xs ++ (ys ++ drop m xs)
 
@@ -52,7 +52,7 @@ piece_aside {X} xs ys i m k v le lt =
     ap (λ z. z ++ (ys ++ drop m (set xs k v))) (take-set-le i xs k v le)
     ∙ ap (λ z. take i xs ++ (ys ++ z)) (drop-set-lt m xs k v lt)
 
--- ---- what stands where
+-- ---- what is where
 
 pub get_left : {X : Type 0} → (xs ys : List X) (k : ℕ) → k < length xs → slice_get (xs ++ ys) k ≡ slice_get xs k
 get_left [] ys k lt = absurd (omega arith)

@@ -32,8 +32,8 @@ use Rattle.tx_commute.proofs.Orders.{Cutting, Fits, before_it, behind_it, betwee
 
 -- ---- modifications that put a piece in
 
--- of a tree that is made of a list, m makes the tree of that list with ys in place of what stands from i to before k,
--- and undo is its inverse, by its place and what stood there
+-- of a tree that is made of a list, m makes the tree of that list with ys in place of what is from i to before k, and
+-- undo is its inverse, by its place and what was there
 pub record Edit {X : Type 0} (C : List X → Type 0) (made : List X → WideTree) (m : Mod) (i k : ℕ) (ys : List X)
     (undo : ℕ → List X → Mod) : Type 0 where
   pub into : (t : List X) (v : WideTree) → changed_at m (made t) ≡ Ok v → Fits C t i k ys × (v ≡ made (piece t i k ys))
@@ -105,7 +105,7 @@ edits_behind {X} C c made a b b' xs ys ua ub i k j l j' l' A B B' le is is' t v 
 
 -- ---- the rows
 
--- what a row answers makes w of s, at the same paths
+-- what a row returns makes w of s, at the same paths
 abbrev pub Row : Mod → Mod → WideTree → WideTree → WideTree → Option Pair → Type 0
 Row x y s v w o =
     (b' a' : Mod) → o ≡ Some (b', a') → Both s v x y b' a' w × (path_of b' ≡ path_of y) × (path_of a' ≡ path_of x)

@@ -1,4 +1,4 @@
--- The inverse of a modification stays where another subtree stands at a path that is carried.
+-- The inverse of a modification is unchanged where another subtree is at a path that is carried.
 use Rattle.std.proofs.Common.{◌≡◌, ℕ, ◌+◌, ◌-◌, ◌<◌, ◌≤◌, Bool, true, false, leb, ltb, eqb, List, [], ◌∷◌, ◌++◌, length}
 use Rattle.std.proofs.Common.{take, drop, set, Option, Some, None, Ok, ◌⊎◌, inl, inr, refl, sym, ap, subst, ◌∙◌, arith}
 use Rattle.std.specs.Prelude.{slice_get, if◌then◌else◌, option_map, unwrap_or}
@@ -148,7 +148,7 @@ inverse_stays_at (RemoveNode p i) s y z q f r e = unwrap_stays p s y z i q f r e
 pub inverse_is_at : (m : Mod) (t s : WideTree) → subtree t (path_of m) ≡ Some s → inverse_of m t ≡ inverse_at m s
 inverse_is_at m t s f = ap (λ o. option_map_or (inverse_at m) o m) f
 
--- of the whole tree
+-- the inverse in the whole tree is unchanged
 pub inverse_stays : (m : Mod) (t s y z : WideTree) (q r : List ℕ) → subtree t (path_of m) ≡ Some s → subtree t q ≡ Some z
     → carried_path m t q ≡ Some r → inverse_of m (replaced t q y) ≡ inverse_of m t
 inverse_stays m t s y z q r found f e = by_route (route m t s q r found e)

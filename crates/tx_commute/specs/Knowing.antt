@@ -91,7 +91,7 @@ insert_places i n (AssignNode q l) = None
 insert_places i n (InsertNode q j y) = None
 insert_places i n (RemoveNode q j) = None
 
--- and what comes later and a removal
+-- the places to which the table moves what comes later and a removal of n at the same path
 abbrev pub remove_places : ℕ → ℕ → Mod → Option (ℕ × ℕ)
 remove_places i n (Assign q y) = None
 remove_places i n (Insert q j y) = if nat_le j i then Some (j, i + extent y) else Some (j + n, i)

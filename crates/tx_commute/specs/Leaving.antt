@@ -19,7 +19,7 @@ use Rattle.tx_commute.specs.Free.{freely}
 use Rattle.tx_commute.specs.Pasts.{past}
 use Rattle.tx_commute.specs.Knowing.{IsKnown, past_known}
 
--- The modifications of an edit stand with the last one first.
+-- The modifications of an edit are listed with the last one first.
 
 -- the tree after all, limits aside
 abbrev pub made_of_all : List Mod → WideTree → Option WideTree
@@ -41,8 +41,8 @@ past_all t (a ∷ ls) b =
     option_and_then (λ p. option_map (put_before p.1) (past_all t ls p.0)) (past u a b))
     (made_of_all ls t)
 
--- How a list of modifications is taken past an edit: all of them, which gives the tree without the edit and what is left
--- of the edit; or none from the first one on that doesn't commute, or that passes a limit.
+-- How a list of modifications is taken past an edit. All of them are, which gives the tree without the edit and what is
+-- left of the edit. Or none is from the first one on that doesn't commute, or that passes a limit.
 pub data Course : Type 0 where
   passed : (out : WideTree) → (left : List Mod) → Course
   stuck : Course
@@ -62,8 +62,8 @@ abbrev pub undo_all : List Mod → WideTree → List Mod
 undo_all [] t = []
 undo_all (a ∷ ls) t = option_map_or (inverse_of a) (made_of_all ls t) a ∷ undo_all ls t
 
--- What comes of it: the tree without the edit and the modifications that lead there, or the number of the first list that
--- fails, by a modification that doesn't commute or by a limit.
+-- The result of leaving an edit out: the tree without the edit and the modifications that lead there, or the number of
+-- the first list that fails, by a modification that doesn't commute or by a limit.
 pub data LeftOut : Type 0 where
   without : (out : WideTree) → (mods : List Mod) → LeftOut
   entangled : (k : ℕ) → LeftOut
@@ -85,7 +85,7 @@ left_out t edit later = leave_from later 0 t (reverse edit)
 
 -- ---- the result
 
--- the result says what comes of it
+-- the result of the code is that of the definition
 abbrev pub IsLeft : LeftOut → Left → Type 0
 IsLeft (without out mods) left = left ≡ Mods mods
 IsLeft (entangled k) left = left ≡ Entangled k
@@ -119,7 +119,7 @@ abbrev pub total : List (List Mod) → ℕ
 total [] = 0
 total (bs ∷ rest) = length bs + total rest
 
--- ---- the same with inverses that are known
+-- ---- leaving out with inverses that are known
 
 abbrev pub KnownPast : Type 0
 KnownPast = Known × List Known
@@ -135,7 +135,7 @@ past_all_known (a ∷ ls) b =
 abbrev pub mods_of : List Known → List Mod
 mods_of ks = map (λ k. k.does) ks
 
--- each is known of the tree that the ones before it make, which stand after it
+-- each is known of the tree that the ones before it make, which are after it in the list
 abbrev pub AreAllKnown : List Known → WideTree → Type 0
 AreAllKnown [] t = Unit {0}
 AreAllKnown (a ∷ ls) t =

@@ -21,7 +21,7 @@ pub record IsMidway (p : Midway) : Type 0 where
 abbrev pub course : List Mod → Midway → Course
 course bs p = through bs p.out (mods_of p.known.items)
 
--- what comes of taking the edit past these modifications
+-- the result of taking the edit past these modifications
 abbrev pub IsPassed : List Mod → Midway → Passed → Type 0
 IsPassed bs p (All q) =
     (course bs p ≡ passed q.out (mods_of q.known.items)) × (changed_in_turn bs p.present ≡ Ok q.present) × IsMidway q

@@ -96,13 +96,14 @@ BothOrdersAgree =
     (t u v : WideTree) (a b b' a' : Mod) → IsSoundMod a → IsSoundMod b → freely a t ≡ Some u → freely b u ≡ Some v
     → past t a b ≡ Some (b', a') → MakeTogether t b' a' v
 
--- a path of t that is carried through m is what its path in the changed tree is carried to through the inverse
+-- where m carries the path q of t to r, its inverse carries r back to q
 abbrev pub CarriedBack : Type 0
 CarriedBack =
     (m : Mod) (t u z : WideTree) (q r : List ℕ) → freely m t ≡ Some u → subtree t q ≡ Some z
     → carried_path m t q ≡ Some r → carried_path (inverse_of m t) u r ≡ Some q
 
--- and what a path of the changed tree is carried to through the inverse is a path of t that is carried there
+-- Where the inverse carries the path q of the changed tree to r, r leads to the same subtree of t, and m carries r to
+-- q.
 abbrev pub CarriedFrom : Type 0
 CarriedFrom =
     (m : Mod) (t u z : WideTree) (q r : List ℕ) → freely m t ≡ Some u → subtree u q ≡ Some z

@@ -61,7 +61,7 @@ without_is t label ts name others e f h =
     ∙ ap (called label) (all_mapped ts)
     ∙ h.made
 
--- where none is left out, and no child has one
+-- where no call is left out, and no child has a call, the tree is unchanged
 pub same_still : (t : WideTree) (label : List ℕ) (ts : List WideTree) (name : List ℕ) (others : List WideTree)
     → label_of t ≡ Some label → ts ≡ children_of t → IsCalled label ts name others → length others ≡ length ts
     → map without_calls others ≡ others
@@ -94,7 +94,7 @@ all_made ts i x u h lt is e =
     ∙ sym (map_both (take i ts) (x ∷ drop (i + 1) ts))
     ∙ ap (map without_calls) (ap (λ us. take i ts ++ us) (sym (left ts i x lt is)) ∙ take-append-drop i ts))
 
--- what holds where there is none
+-- what holds where there is no value
 pub at_none : {V : Type 0} (P : Type 0) (Q : V → Type 0) (o : Option V) → is_some o ≡ false → MatchOption o P Q → P
 at_none P Q None e h = h
 at_none P Q (Some v) e h = absurd cc

@@ -106,7 +106,7 @@ within_still t h =
       size = omega (arith, h.size, less.size);
     }
 
--- ---- well formed trees stay well formed
+-- ---- well formed trees are well formed without calls
 
 mutual
   pub formed_still : (t : WideTree) → IsWellFormed t → IsWellFormed (without_calls t)

@@ -28,8 +28,8 @@ is_call label = bytes_eq label (codes "expand") || bytes_eq label (codes "apply"
 abbrev pub is_label : List ℕ → Bool
 is_label bytes = nat_le 1 (length bytes) && nat_le (length bytes) MOST_LABEL && list_all is_label_byte bytes
 
--- The node, of which a call is the node of the macro: while the label is one of a call, and child 0 a text that is a
--- label, this text is the label in its place, and the other children are the children.
+-- The node with this label and these children; for a call, the node of the macro. While the label is one of a call and
+-- child 0 is a text that is a label, that text becomes the label, and the other children become the children.
 abbrev pub called : List ℕ → Forest → WideTree
 called label nil = node label nil
 called label (cons (leaf text) others) =

@@ -23,10 +23,10 @@ numbers_of (piece ∷ pieces) =
 abbrev pub is_point : ℕ → Bool
 is_point b = b == 46
 
--- the numbers of a version: points stand between them
+-- the numbers of a version, with points between them
 abbrev pub version_of : List ℕ → Option (List ℕ)
 version_of bytes = numbers_of (slice_split is_point bytes)
 
--- a version before 1.0.2, by the order of lists of numbers, where a proper prefix stands first
+-- a version before 1.0.2, by the order of lists of numbers, where a proper prefix comes first
 abbrev pub is_old_version : List ℕ → Bool
 is_old_version bytes = option_map_or (λ ns. is_lt (slice_cmp nat_cmp ns (1 ∷ 0 ∷ 2 ∷ []))) (version_of bytes) false

@@ -312,14 +312,14 @@ splitting_both t at p text i j formed there is found =
 same_move : (a b : Move) → ◌≡◌ {A = Result Move EditFault} (Ok a) (Ok b) → a ≡ b
 same_move a b e = cc
 
--- an answer by cases of a value that may be there
+-- a result by cases of a value that may be there
 by_option : {X : Type 0} (P : Move → Type 0) (f : X → Result Move EditFault) (cause : EditFault) (o : Option X)
     (m : Move) → option_map_or f o (Err cause) ≡ Ok m
     → ((x : X) → o ≡ Some x → f x ≡ Ok m → P m) → P m
 by_option P f cause None m e g = absurd (cc)
 by_option P f cause (Some x) m e g = g x refl e
 
--- an answer by a test
+-- a result by a test
 by_if : (P : Move → Type 0) (b : Bool) (x : Result Move EditFault) (cause : EditFault) (m : Move)
     → (if b then x else Err cause) ≡ Ok m → (b ≡ true → x ≡ Ok m → P m) → P m
 by_if P true x cause m e g = g refl e

@@ -7,7 +7,7 @@ use Rattle.tx_tree.specs.WideTree.{WideTree}
 use Rattle.tx_env.specs.Pairs.{Name, Pairs, flattened, listed, find, put}
 use Rattle.tx_env.specs.Changes.{AreSame}
 
--- what is listed at y behind the pair of z, where x was put
+-- what is listed at y after the pair of z, where x was put
 listed_in : (x y z : Name) (t u : Option WideTree) (ps : Pairs) (b c d : Bool) → b ≡ bytes_eq x z → c ≡ bytes_eq y z
     → d ≡ bytes_eq y x
     → listed y (put x t ps) ≡ cond d (Some t) (listed y ps)

@@ -34,7 +34,7 @@ put_last [] x t h = refl
 put_last (p ∷ ps) x t h =
     ap (λ b. if b then (p.0, t) ∷ ps else p ∷ put x t ps) (differs p.0 x h.0) ∙ ap (λ us. p ∷ us) (put_last ps x t h.1)
 
--- of names that differ, those before one differ from it
+-- where names differ, those before one differ from it
 apart_at : (x : Name) (ps qs : Pairs) (q : Name × Option WideTree)
     → AllByRecursion (λ y. bytes_eq x y ≡ false) (keys_of (ps ++ q ∷ qs)) → bytes_eq x q.0 ≡ false
 apart_at x [] qs q h = h.0
@@ -56,6 +56,6 @@ all_after ps (q ∷ qs) h =
     ∙ all_after (ps ++ q ∷ []) qs (subst (λ us. IsDistinct bytes_eq (keys_of us)) (sym (append_assoc ps (q ∷ []) qs)) h)
     ∙ append_assoc ps (q ∷ []) qs
 
--- pairs of which each name stands once, put one by one into an empty list, are the same pairs
+-- pairs in which each name is listed once, put one by one into an empty list, are the same pairs
 pub all_inserted : (ps : Pairs) → IsDistinct bytes_eq (keys_of ps) → insert_all bytes_eq [] ps ≡ ps
 all_inserted ps h = all_after [] ps h

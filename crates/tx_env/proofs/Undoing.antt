@@ -20,7 +20,7 @@ at_least k n h = grind (arith, common_steps, h)
 less : (k n : ℕ) → n < k → nat_le k n ≡ false
 less k n h = grind (arith, common_steps, h)
 
--- no change in a scope from number k on
+-- where no change is in a scope from number k on, nothing is taken back
 pub none_undone : (k n : ℕ) (map map' : Pairs) (m : ℕ) (cs : List Change) → AreFrom m n map' cs → n ≤ k
     → undone k map cs ≡ map
 none_undone k n map map' m [] h le = refl
@@ -60,7 +60,7 @@ put_undone x t u ps h =
     by true y e = h ∙ ap (λ z. find z ps) (sym ((bytes_decides y x).0 (sym e)))
     by false y e = refl
 
--- what the scopes go back to is the same behind a change that is kept
+-- after a change that is kept, the scopes go back to the same
 pub kept_by_change : (map : Pairs) (cs : List Change) (n : ℕ) (x : Name) (t u : Option WideTree) → 0 < n
     → u ≡ find x map
     → (k : ℕ) → k < n → AreSame (undone k (put x t map) (cs ++ (n - 1, (x, u)) ∷ [])) (undone k map cs)

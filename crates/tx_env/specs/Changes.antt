@@ -1,5 +1,5 @@
--- The changes that were made in open scopes, and the maps to which they lead back. No contract outside this crate
--- speaks of them.
+-- The changes that were made in open scopes, and the maps to which they lead back. No contract outside this crate cites
+-- them.
 use Rattle.std.specs.Prelude.{◌≡◌, ℕ, zero, suc, ◌<◌, ◌≤◌, nat_le, if◌then◌else◌, List, [], ◌∷◌, ◌++◌, Option, Some}
 use Rattle.std.specs.Prelude.{None, IsSome, min}
 use Rattle.std.specs.FinMap.{empty, insert, remove}
@@ -11,7 +11,7 @@ use Rattle.tx_env.specs.Environments.{NameMap}
 abbrev pub Change : Type 0
 Change = ℕ × (Name × Option WideTree)
 
--- the map of the pairs, of which the first of a name tells what it has
+-- the map of the pairs, where the first pair of a name says what the name has
 abbrev pub with_pair : Name → Option WideTree → NameMap → NameMap
 with_pair x None m = remove m x
 with_pair x (Some t) m = insert m x t
@@ -35,11 +35,11 @@ abbrev pub AreFrom : ℕ → ℕ → Pairs → List Change → Type 0
 AreFrom k n ps [] = Unit {0}
 AreFrom k n ps (c ∷ cs) = (k ≤ c.0) × (c.0 < n) × IsSome (listed c.1.0 ps) × AreFrom c.0 n ps cs
 
--- the same names have the same
+-- each name has the same in both
 abbrev pub AreSame : Pairs → Pairs → Type 0
 AreSame ps qs = (y : Name) → find y ps ≡ find y qs
 
--- the changes as made in no scope behind number n
+-- the changes, where those in scopes after number n count as made in scope n
 abbrev pub capped_changes : ℕ → List Change → List Change
 capped_changes n [] = []
 capped_changes n (c ∷ cs) = (min c.0 n, c.1) ∷ capped_changes n cs

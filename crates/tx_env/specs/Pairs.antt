@@ -16,7 +16,7 @@ abbrev pub flattened : Option (Option WideTree) → Option WideTree
 flattened None = None
 flattened (Some t) = t
 
--- what stands in the list at the name, if it is listed
+-- what the list has at the name, if it is listed
 abbrev pub listed : Name → Pairs → Option (Option WideTree)
 listed x ps = lookup (bytes_eq x) ps
 
@@ -24,7 +24,7 @@ listed x ps = lookup (bytes_eq x) ps
 abbrev pub find : Name → Pairs → Option WideTree
 find x ps = flattened (listed x ps)
 
--- with this at the name: in place of what stands there, or at the end
+-- the pairs with this at the name: in place of what is there, or at the end
 abbrev pub put : Name → Option WideTree → Pairs → Pairs
 put x t ps = insert_entry bytes_eq ps x t
 

@@ -7,7 +7,7 @@ use Rattle.tx_exec.specs.Settings.{sets_of, nodes_in}
 use Rattle.tx_exec.specs.declared.withs.Setting.{Setting}
 use Rattle.tx_exec.specs.declared.withs.Parts.{Parts}
 
--- of i pairs, where at the start there were this many steps, and now this many are left
+-- What is counted of i pairs. At the start there were this many steps, and now this many are left.
 pub record AreSettingsCounted (values : List WideValue) (ss : List Setting)
     (sum count left start levels i : ℕ) : Type 0 where
   pub total : sum ≡ sizes (sets_of ss)

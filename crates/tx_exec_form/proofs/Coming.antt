@@ -250,7 +250,7 @@ any_gave : {A : Type 0} (r : Ran A) → Gave (λ _. Unit {0}) r
 any_gave Over = tt
 any_gave (Done a s) = tt
 
--- of which nothing is said
+-- nothing is said of what the first run gives
 skip : {A B : Type 0} (Q : B → Type 0) (m : Run A) {f : A → Run B} → ((a : A) → Yields Q (f a)) → Yields Q (m >>= f)
 skip Q m {f = f} g = record { runs = λ e s. then_gave (λ _. Unit {0}) Q f e (m e s) (any_gave (m e s)) (λ a _. g a) }
 

@@ -1,4 +1,4 @@
--- What a tree comes to in a frame, and so what trees come to that are evaluated one after the other.
+-- What a tree evaluates to in a frame, and what trees evaluate to, in order.
 use Rattle.std.specs.Prelude.{◌≡◌, ◌≤◌, ◌<◌, ◌⊎◌, ℕ, ◌-◌, List, [], Option, Some, None}
 use Rattle.tx_env.specs.Environments.{NameMap}
 use Rattle.tx_origin.specs.Values.{WideValue}
@@ -10,7 +10,8 @@ use Rattle.tx_exec_form.specs.Rows.{ex, each}
 use Rattle.tx_exec_form.specs.Evaluated.{WideTrace, start, traced}
 use Rattle.tx_exec_form.specs.Laws.{Agrees}
 
--- The trace of the tree in the frame, with k levels and c steps, where names have this before. None where it is over.
+-- The trace of the tree in the frame, with k levels and c steps, where names have this before. None where these run
+-- out.
 unfoldable pub framed : Frame → ℕ → ℕ → TaggedTree → Before → Option WideTrace
 framed f k c t e = traced k c (ex k t f e (start k c))
 
@@ -25,7 +26,7 @@ abbrev pub IsPastFramed : Frame → ℕ → ℕ → TaggedTree → Before → Ty
 IsPastFramed f k c t e = (trace : WideTrace) → SupportsFramed f trace t → Agrees e trace.looks →
     (c < trace.cost) ⊎ (k < trace.height)
 
--- ---- trees one after the other
+-- ---- trees in order
 
 -- their values in order, and the rest as in the trace of one tree
 pub record RunTrace : Type 0 where
@@ -43,12 +44,12 @@ abbrev pub run_traced : ℕ → ℕ → Ran (List WideValue) → Option RunTrace
 run_traced k c Over = None
 run_traced k c (Done vs s) = Some (run_trace_of k c vs s)
 
--- The trace of the trees, one after the other in the frame, each with k levels and all with c steps. None where one is
--- over.
+-- The trace of the trees, in order in the frame, each with k levels and all with c steps. None where these run out.
 unfoldable pub run_framed : Frame → ℕ → ℕ → List TaggedTree → Before → Option RunTrace
 run_framed f k c ts e = run_traced k c (each (ex k) f [] ts e (start k c))
 
--- as for one tree
+-- In every environment that agrees with its looks this is the trace of the trees in the frame, wherever its cost and
+-- its height are allowed.
 abbrev pub SupportsRun : Frame → RunTrace → List TaggedTree → Type 0
 SupportsRun f trace ts = (k c : ℕ) (e : Before) → Agrees e trace.looks → trace.cost ≤ c → trace.height ≤ k →
     run_framed f k c ts e ≡ Some trace

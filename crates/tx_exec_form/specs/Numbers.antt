@@ -30,7 +30,7 @@ abbrev pub part_of : TaggedTree → List ℤ → Option TaggedTree
 part_of t [] = Some t
 part_of t (n ∷ ns) = option_and_then (λ u. part_of u ns) (kid_at t n)
 
--- of several trees: the first number picks one, and the others lead on
+-- the part among several trees: the first number picks one, and the others lead on
 abbrev pub part_among : List TaggedTree → ℤ → List ℤ → Option TaggedTree
 part_among ts n ns = option_and_then (λ u. part_of u ns) (tree_at ts n)
 

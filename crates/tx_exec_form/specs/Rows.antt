@@ -187,7 +187,7 @@ abbrev pub quote : ℕ → List ℕ → List TaggedTree → Run WideValue
 quote k label (t ∷ []) = taken k (whole t.at t.tree)
 quote k label other = wrong k (codes "bad") label
 
--- of whose size the step of the node is paid already
+-- the tree itself; of its size, the step of the node is paid already
 abbrev pub itself : ℕ → TaggedTree → Run WideValue
 itself k t = do
   need (depth_of t.tree) k

@@ -48,7 +48,7 @@ over = λ e s. Over
 unfoldable pub pay : ℕ → Run (Unit {0})
 pay n = λ e s. if nat_le n s.left then Done tt (record s { left = s.left - n }) else Over
 
--- of k levels n are needed
+-- n of k levels are needed
 unfoldable pub need : ℕ → ℕ → Run (Unit {0})
 need n k = λ e s. if nat_le n k then Done tt (record s { slack = min s.slack (k - n) }) else Over
 

@@ -1,4 +1,4 @@
--- Plans: that they tell which values show as lists, and what the plans of the parts are.
+-- Which values show as lists, by their plans, and what the plans of the parts are.
 use Rattle.std.proofs.Common.{◌≡◌, ◌≢◌, ℕ, zero, suc, ◌+◌, ◌-◌, ◌%◌, ◌<◌, Bool, true, false, not, ◌||◌, ◌&&◌, cond}
 use Rattle.std.proofs.Common.{List, [], ◌∷◌, ◌++◌, length, get_or, take, Option, Some, None, refl, sym, ap, ap₂, ◌∙◌}
 use Rattle.std.proofs.Common.{arith}
@@ -336,7 +336,7 @@ pub ruleset items = (slice_get_read, slice_get_past)
 pub ruleset making =
     (plan_text, plan_row, plans_none, plans_next, last_even, last_odd, part_shallower, last_shallower, last_there)
 
--- ---- what the plan tells of what is shown
+-- ---- what the plan says of what is shown
 
 pub inline_by_plan : (a : Attrs) (v : WideValue) (p : WideTree) → p ≡ plan_of v → false ≡ not (is_leaf p)
     → is_inline (show a v).form ≡ true

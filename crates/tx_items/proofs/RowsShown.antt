@@ -216,7 +216,7 @@ cells_more xs i v s u w c more there is one rest =
     (cells_both (one_of (show s.attrs v)) (show_all false (show s.attrs v).after (vals (drop (i + 1) xs))) s u w
     (c ∷ []) more one (subst Q one.after rest))
 
--- the same after other cells
+-- the cells, where one more counts among those before
 pub cells_pushed : (all : AllShown) (s w : State) (row new more : List (List Item)) (c : List Item)
     → HasCells all s w (row ++ c ∷ more) → new ≡ row ++ c ∷ [] → HasCells all s w (new ++ more)
 cells_pushed all s w row new more c h e =
@@ -388,7 +388,7 @@ row_fits rows sides at row left right same there is isl isr =
     side_there (x ∷ xs) zero h = refl
     side_there (x ∷ xs) (suc i) h = side_there xs i (omega arith)
 
--- the same by the plan of the table
+-- what a row is given, by the plan of the table
 pub pads_there : (rows : List ShownRow) (sides : List (List Side)) (widths : List (List ℕ)) (plan : Plan) (at : ℕ)
     (row : ShownRow) (rest : List ShownRow) → map (λ r. length r.1) rows ≡ map length sides → widths ≡ row_widths rows
     → plan ≡ plan_of widths sides → drop at rows ≡ row ∷ rest

@@ -25,7 +25,7 @@ attribute_named name =
     else if bytes_eq name (codes "par-first") then Some First
     else None
 
--- where no variable is set
+-- the attributes where no variable is set
 abbrev pub initial : Attrs
 initial = record {
   series = codes "medium";
@@ -62,7 +62,7 @@ with_value Left value a = record a { left = length_or_zero value }
 with_value Right value a = record a { right = length_or_zero value }
 with_value First value a = record a { first = length_or_zero value }
 
--- the same, or nothing where no attribute is named
+-- the named attribute is set, or nothing where none is named
 abbrev pub with_named : Option Attribute → Option (List ℕ) → Attrs → Attrs
 with_named None value a = a
 with_named (Some which) value a = with_value which value a

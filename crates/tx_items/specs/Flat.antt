@@ -1,4 +1,4 @@
--- Which values show in a line that nothing in them ends, told by labels, numbers of parts and lengths alone.
+-- Which values show in a line that nothing in them ends. Labels, numbers of parts and lengths alone decide it.
 use Rattle.std.specs.Prelude.{ℕ, Bool, true, false, not, ◌&&◌, List, [], ◌∷◌, Option, Some, None, option_and_then}
 use Rattle.std.specs.Prelude.{ℤ}
 use Rattle.tx_prim.specs.Lengths.{length_of}
@@ -25,7 +25,8 @@ abbrev pub is_table : Option Grid → Bool → Bool
 is_table None flat = false
 is_table (Some grid) flat = flat
 
--- by the parts, whether all of them are flat, whether the last one is after pairs, and whether they are a table
+-- whether a node is flat: by its rule, its parts, whether all of them are flat, whether the last one after pairs is
+-- flat, and whether they are a table
 abbrev pub rule_flat : Rule → WideValues → Bool → Bool → Bool → Bool
 rule_flat rules.Concat vs all last table = all
 rule_flat rules.Document vs all last table = false
@@ -51,13 +52,13 @@ unfoldable mutual
   all_flat none = true
   all_flat (also v vs) = is_flat v && all_flat vs
 
-  -- an even number of parts is an error
+  -- whether the last part after pairs is flat; an even number of parts is an error, which is flat
   pub last_flat : WideValues → Bool
   last_flat none = true
   last_flat (also v none) = is_flat v
   last_flat (also x (also v vs)) = last_flat vs
 
-  -- what is in the cells of a table, where these levels lead from the values down to it
+  -- whether what is in the cells of a table is flat, where these levels lead from the values down to it
   pub flat_below : List Level → WideValues → Bool
   flat_below levels none = true
   flat_below [] (also v none) = is_flat v

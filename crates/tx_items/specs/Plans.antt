@@ -1,4 +1,4 @@
--- Which parts of a value show as lists, told before anything is shown. A plan is seen as a tree without words: a leaf
+-- Which parts of a value show as lists, known before anything is shown. A plan is seen as a tree without words: a leaf
 -- for what shows in a line, a node with the plans of the parts for a list.
 use Rattle.std.specs.Prelude.{ℕ, Bool, false, not, ◌||◌, [], get_or}
 use Rattle.std.specs.Prelude.{if◌then◌else◌}
@@ -26,7 +26,8 @@ joint_plan plans = if some_list plans then list_plan plans else line_plan
 abbrev pub table_plan : Bool → WideTree
 table_plan table = if table then list_plan nil else line_plan
 
--- by the plans of the parts, that of the last one after pairs, and whether they show as a table
+-- the plan of a node: by its rule, the plans of its parts, that of the last one after pairs, and whether they show as a
+-- table
 abbrev pub rule_plan : Rule → Forest → WideTree → Bool → WideTree
 rule_plan rules.Concat plans last table = joint_plan plans
 rule_plan rules.Document plans last table = list_plan plans

@@ -44,7 +44,7 @@ pub record HasShown (one : Shown) (s u : State) : Type 0 where
   pub errors : u.errors ≡ s.errors ++ one.errors
   pub adds : Adds one.form s u
 
--- several, of which each list ends the run before it and its own
+-- several values are added: each list ends the run before it and its own
 pub record ShowsForms (fs : List (Form × Attrs)) (s u : State) : Type 0 where
   pub pars : (rest : List (Form × Attrs))
       → u.paragraphs ++ paragraphs_of u.run rest ≡ s.paragraphs ++ paragraphs_of s.run (fs ++ rest)
@@ -55,7 +55,7 @@ pub record HasRun (all : AllShown) (s u : State) : Type 0 where
   pub errors : u.errors ≡ s.errors ++ all.errors
   pub goes : ShowsForms all.each s u
 
--- the same where each is paragraphs of its own, after no run
+-- several values are added after no run, each as paragraphs of its own
 pub record HasPars (all : AllShown) (s u : State) : Type 0 where
   pub after : u.attrs ≡ all.after
   pub errors : u.errors ≡ s.errors ++ all.errors
@@ -115,7 +115,7 @@ abbrev pub is_nothing : ItemRun → Bool
 is_nothing empty = true
 is_nothing (begun a items) = false
 
--- those of a part of a unit
+-- the paragraphs at the end of a part of a unit that shows as a list, or in a line
 abbrev pub part_finished : Bool → State → List Paragraph
 part_finished false s = s.paragraphs ++ whole_run s.run s.attrs ∷ []
 part_finished true s = s.paragraphs ++ run_ended s.run
@@ -141,7 +141,7 @@ length_alone (also v (also w vs)) = None
 
 -- ---- tables
 
--- several, each a cell, of which the run holds nothing any more
+-- several values are shown after no run, each as a cell, and leave no run
 pub record HasCells (all : AllShown) (s u : State) (cells : List (List Item)) : Type 0 where
   pub after : u.attrs ≡ all.after
   pub errors : u.errors ≡ s.errors ++ all.errors
@@ -153,7 +153,7 @@ abbrev pub all_cells : List (List WideValue) → List WideValue
 all_cells [] = []
 all_cells (row ∷ rows) = row ++ all_cells rows
 
--- the same of rows of cells
+-- rows of cells are shown after no run, and leave no run
 pub record HasRows (rows : List (List WideValue)) (s u : State) (shown : List ShownRow) : Type 0 where
   pub after : u.attrs ≡ (show_all false s.attrs (vals (all_cells rows))).after
   pub errors : u.errors ≡ s.errors ++ (show_all false s.attrs (vals (all_cells rows))).errors

@@ -55,7 +55,7 @@ pub record Shown : Type 0 where
   pub after : Attrs
   pub errors : List ErrorAt
 
--- the same of several values, each with the attributes after it
+-- what several values show as, each with the attributes after it, and their errors
 pub record AllShown : Type 0 where
   pub each : List (Form × Attrs)
   pub after : Attrs
@@ -239,8 +239,8 @@ tabular_shown a label None cells = bad a label
 tabular_shown a label (Some grid) cells =
     if cells_fit cells.each then rows_shown a grid.sides cells else bad a label
 
--- a rule at a label, by the parts, what they show, each after a bar or not, what the last one shows after pairs, and
--- what they show as a table
+-- What a rule shows at a label: by the parts, what they show, each after a bar or not, what the last one shows after
+-- pairs, and what they show as a table.
 abbrev pub rule_shown : Rule → Attrs → List ℕ → WideValues → (Bool → AllShown) → Option Shown → Shown → Shown
 rule_shown rules.Concat a label vs all last table = concat_shown (all false)
 rule_shown rules.Document a label vs all last table = document_shown (all false)
@@ -290,7 +290,7 @@ unfoldable mutual
       giving_back (value_text x) before
       (show_with before (with_named (attribute_in (value_text x)) (value_text v) a) vs)
 
-  -- what is in the cells of a table shows, one after the other, where these levels lead from the values down to it
+  -- what the contents of the cells of a table show, in order, where these levels lead from the values down to them
   pub show_below : List Level → Attrs → WideValues → AllShown
   show_below levels a none = nothing_shown a
   show_below [] a (also v none) = one_of (show a v)

@@ -67,7 +67,7 @@ table_paragraphs sides rows = row_paragraphs (column_widths (row_widths rows)) s
 
 -- ---- where the cells are
 
--- of which parts of a node one goes on to their parts
+-- which parts of a node lead on to their parts
 pub data Level : Type 0 where
   Every : Level
   -- the last one alone

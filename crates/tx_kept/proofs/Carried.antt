@@ -1,4 +1,4 @@
--- What an edit leaves of entries in order is in order, and each value stays with its tree.
+-- The entries that an edit leaves of entries in order are in order, and each value is still with its tree.
 use Rattle.std.proofs.Common.{◌≡◌, ℕ, zero, suc, ◌<◌, List, [], ◌∷◌}
 use Rattle.std.proofs.Common.{length, slice_index_or, refl, sym, ap, subst, ◌∙◌, arith}
 use Rattle.std.specs.List.{cons_option, Contains}
@@ -33,7 +33,7 @@ way_of m ms t v q r is h = by (carried_path m t q) refl (sym (path_after m ms t 
     by None e g = absurd (cc)
     by (Some p) e g = record { next = p; first = e; rest = g }
 
--- through all modifications two paths stay in order
+-- two paths in order are in order after all modifications
 pub all_keep : (ms : List Mod) (t u x y : WideTree) (q r q1 r1 : List ℕ) → changed_by_all ms t ≡ Some u
     → subtree t q ≡ Some x → subtree t r ≡ Some y → IsBefore q r → carried_by_all ms t q ≡ Some q1
     → carried_by_all ms t r ≡ Some r1 → IsBefore q1 r1
@@ -48,7 +48,7 @@ all_keep (m ∷ ms) t u x y q r q1 r1 h lq lr less e f =
     (carries_subtree m t r s.between y b.next s.one lr b.first)
     (keeps_order m t q r x y a.next b.next lq lr less a.first b.first) a.rest b.rest
 
--- the same subtree is there
+-- where all modifications carry a path, there is the same subtree
 pub all_carry : (ms : List Mod) (t u x : WideTree) (q q1 : List ℕ) → changed_by_all ms t ≡ Some u
     → subtree t q ≡ Some x → carried_by_all ms t q ≡ Some q1 → subtree u q1 ≡ Some x
 all_carry [] t u x q q1 h lq e =

@@ -151,7 +151,7 @@ pub found_there : {X : Type 0} (xs : List (Entry X)) (path : List ℕ) (i : ℕ)
 found_there xs path i y e same =
     (refl, record { entry = y; there = e; stands = (bytes_eq-Decides y.path path).0 same })
 
--- it is not
+-- the entry that is read of a list is not at this path
 pub missed_there : {X : Type 0} (xs : List (Entry X)) (path : List ℕ) (i : ℕ) (y : Entry X) → slice_get xs i ≡ Some y
     → bytes_eq y.path path ≡ false → (x : Entry X) → slice_get xs i ≡ Some x → x.path ≡ path → ⊥
 missed_there {X} xs path i y e off x f same =

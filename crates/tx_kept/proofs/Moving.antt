@@ -123,7 +123,7 @@ module _ {X : Type 0} (ms : List Mod) (t : WideTree) (xs : List (Entry X)) (k : 
       reach : (k : ℕ) → k ≤ k
       reach k = omega arith
 
--- the same, where entries are counted from the last one on
+-- one entry more, where entries are counted from the last one on
 pub noted_down : {X : Type 0} (ms : List Mod) (t : WideTree) (xs : List (Entry X)) (done : ℕ) (x : Entry X)
     (old new : List Move) → done < length xs → x ≡ slice_index_or xs (length xs - 1 - done) x
     → Noted ms t xs (length xs - done) old
@@ -138,7 +138,7 @@ noted_down ms t xs done x old new inside is n note =
 
 -- ---- moves are made
 
--- what is taken off a stack, and what stays on it
+-- what is taken off a stack, and what is left on it
 pub popped : (old new : List Move) (next : Option Move) → old ≡ new ++ option_to_list next
     → (next ≡ None → old ≡ []) → due next new ≡ reverse old
 popped old new None e none = sym (ap reverse (none refl))
@@ -148,7 +148,7 @@ pub none_popped : (old : List Move) (n : ℕ) → n ≡ 0 → length old ≡ n �
 none_popped [] n e f = refl
 none_popped (m ∷ old) n e f = absurd (omega (arith, e, f))
 
--- The entries in front of number `at` are settled, and those that stay are in front of number `end`.
+-- The entries before number `at` are settled, and those that are kept are before number `end`.
 pub record Settling {X : Type 0} (whole xs : List (Entry X)) (at end count : ℕ) (left : List Move) : Type 0 where
   pub same : take end xs ++ moved at left (drop at xs) ≡ whole
   pub behind : end ≤ at
@@ -187,7 +187,7 @@ module _ {X : Type 0} (whole xs : List (Entry X)) (at end count : ℕ) (left nex
         long = ap length set_is ∙ length-set xs at y ∙ s.long;
       }
 
-  -- it stays
+  -- the entry is kept
   pub settle_stays : (zs ws : List (Entry X)) → zs ≡ slice_set xs at y → SwappedAt zs ws end at
       → ((rest : List (Entry X)) → moved at left (x ∷ rest) ≡ y ∷ moved (at + 1) next rest)
       → Settling whole ws (at + 1) (end + 1) count next

@@ -18,7 +18,7 @@ trees_before (m ∷ ms) t = t ∷ option_map_or (trees_before ms) (outcome_tree 
 abbrev pub carried_entry : {X : Type 0} → List Mod → WideTree → Entry X → Option (Entry X)
 carried_entry ms t x = option_map (λ q. record { path = q; value = x.value }) (carried_by_all ms t x.path)
 
--- each entry moves to where its path is carried, and goes where that is nowhere
+-- each entry moves to where its path is carried, and is dropped where that is nowhere
 abbrev pub carry : {X : Type 0} → List Mod → WideTree → List (Entry X) → List (Entry X)
 carry ms t xs = filter_map (carried_entry ms t) xs
 

@@ -276,7 +276,7 @@ shape_done frame items b start end rows rows' own on within past whole ours f so
     subst P (sym same)
     (so_far (or_empty b true ours.words) (subst Q all (last_segment b segment ours.words whole ours.filled)))
 
--- the lines of a paragraph, from what each call gave
+-- the lines of a paragraph, from what each call returned
 pub laid_out : (p : Paragraph) (width least : ℕ) (frame : Frame) (shown given : List Item) (rows lent : List Row)
     (lines : List Line) → frame ≡ line_frame p width → least ≡ least_width frame
     → shown ≡ map (capped_item least) p.items → given ≡ shown

@@ -39,7 +39,7 @@ no_earlier least items x y e p q =
       | inr more ↦ more
     ]
 
--- nor end before it
+-- a piece doesn't end before another one that begins at the same place
 no_shorter : (least : ℕ) (items : List Item) (x y : Span) → x.from ≡ y.from → IsSpan least items x
     → IsSpan least items y → y.to ≤ x.to
 no_shorter least items x y e p q =

@@ -25,7 +25,7 @@ nothing_told height p some h f c e = record {
       (subst (λ (n : ℕ). PagesFrom more height n later) f t);
 }
 
--- what was told stays
+-- where the fields are unchanged, the same lines were given
 pub still_told : (lines : List Line) (height : ℕ) (p q : Paginator) → HasTold lines height p → q.height ≡ p.height
     → q.from ≡ p.from → q.count ≡ p.count → q.ended.items ≡ p.ended.items → HasTold lines height q
 still_told lines height p q told h f c e = record {

@@ -94,7 +94,7 @@ filled items ss pieces first later cuts a b e h =
     let P : List Piece → Type 0 = λ ps. IsFirstFit ps first later cuts in
     uncapped (map (piece_of items) ss) first later cuts a b (subst P (e ∙ map_both items ss) h)
 
--- items as they stand on lines are no wider than the least width
+-- items as they are on lines are no wider than the least width
 one_shown : (least : ℕ) (i : Item) → 10 ≤ least → IsNarrow i → Narrow least (capped_item least i)
 one_shown least (Glyph d) h n = omega arith
 one_shown least (Space d) h n = omega arith
@@ -112,7 +112,7 @@ all_shown least (x ∷ xs) h n =
     (one_shown least x h (All-head IsNarrow x xs n))
     (all_shown least xs h (All-tail IsNarrow x xs n))
 
--- the rows of a segment's words, from what each call gave
+-- the rows of a segment's words, from what each call returned
 pub are_rows : (frame : Frame) (b : Bool) (start least width : ℕ) (segment : List Item) (spans given shown : List Span)
     (pieces filling : List Piece) (cuts last : List Cut) (rows : List Row) → IsFrame frame → least ≡ least_width frame
     → width ≡ width_at frame b → SpansFrom least segment 0 spans → given ≡ spans

@@ -64,7 +64,7 @@ rows_at frame is_first start segment spans (cut ∷ cuts) =
 abbrev pub capped_piece : Piece → Piece
 capped_piece p = record { before = min p.before 501; cells = min p.cells 501 }
 
--- a piece ends within the items, and nowhere before an earlier one begins
+-- a piece ends within the items, and no earlier than an earlier one begins
 abbrev pub Rises : List Item → List Span → Type 0
 Rises items spans =
     (i j : ℕ) (d e : Span) → i ≤ j → j < length spans →

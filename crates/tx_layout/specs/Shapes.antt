@@ -88,7 +88,7 @@ is_ink_cluster Break = false
 is_ink_cluster PageEnd = false
 is_ink_cluster (Down n) = false
 
--- the items of a paragraph as they stand on lines
+-- the items of a paragraph as they are on lines
 abbrev pub items_shown : Paragraph → ℕ → List Item
 items_shown p width = map (capped_item (least_width (line_frame p width))) p.items
 

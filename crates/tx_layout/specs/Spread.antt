@@ -23,7 +23,7 @@ spread_by each more (x ∷ xs) =
     if is_blank_item x then x ∷ (gap_of (each + min more 1) ++ spread_by each (more - 1) xs)
     else x ∷ spread_by each more xs
 
--- so many free cells, all of them put in after the spaces; items without a space stay
+-- so many free cells, all of them put in after the spaces; items without a space are unchanged
 abbrev pub spread : ℕ → List Item → List Item
 spread zero items = items
 spread (suc free) items = spread_by (suc free / spaces_among items) (suc free % spaces_among items) items

@@ -7,11 +7,11 @@ use Rattle.std.proofs.lemmas.List.Sums.{sum_by_push, sum_by-take-le}
 use Rattle.tx_lines.specs.declared.first_fit.Piece.{Piece}
 use Rattle.tx_lines.specs.FirstFit.{cells_of, line_cells}
 
--- what a piece takes behind another: the spaces before it, and its own cells
+-- what a piece takes after another: the spaces before it, and its own cells
 abbrev beside : Piece → ℕ
 beside next = next.before + next.cells
 
--- one more piece behind others
+-- one more piece after others
 cells_of-push : (xs : List Piece) (y : Piece) → 0 < length xs → cells_of (xs ++ y ∷ []) ≡ cells_of xs + beside y
 cells_of-push [] y some = absurd (omega arith)
 cells_of-push (x ∷ xs) y some = omega (arith, sum_by_push beside xs y)

@@ -10,7 +10,7 @@ use Rattle.tx_lines.specs.FirstFit.{line_cells, width_of, IsFirstFit}
 use Rattle.tx_lines.proofs.Cells.{cells_of_le}
 use Rattle.tx_lines.proofs.Places.{slice_get-push, same_cut, forward, Partitions-push, meets}
 
--- lines of the pieces before a place, of which none has room for the piece behind it
+-- lines of the pieces before a place, of which none has room for the piece after it
 pub record FillsTo (pieces : List Piece) (first later end : ℕ) (lines : List Cut) : Type 0 where
   pub in_order : Partitions lines 0 end
   pub fits : (k : ℕ) (line : Cut) → slice_get lines k ≡ Some line
@@ -23,7 +23,7 @@ pub min_width : (first later k : ℕ) → min first later ≤ width_of first lat
 min_width first later zero = omega arith
 min_width first later (suc k) = omega arith
 
--- behind any line a line has the later width
+-- after any line a line has the later width
 pub later_behind : (first later : ℕ) (lines : List Cut) (line : Cut)
     → later ≡ width_of first later (length (lines ++ line ∷ []))
 later_behind first later [] line = refl
@@ -84,7 +84,7 @@ rest_fills pieces from first later line rest h = record {
   full = λ k at next e f. rw later_width (h.full (suc k) at next e f);
 }
 
--- the first of the lines ends nowhere before the first of others
+-- the first of the lines ends no earlier than the first of others
 no_shorter : (pieces : List Piece) (from first later : ℕ) (x y : Cut) (xs ys : List Cut)
     → FillsFrom pieces from first later (x ∷ xs) → FillsFrom pieces from first later (y ∷ ys) → y.to ≤ x.to
 no_shorter pieces from first later x y [] ys a b = let on : y.to ≤ length pieces =

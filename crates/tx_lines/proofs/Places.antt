@@ -8,7 +8,7 @@ use Rattle.std.proofs.lemmas.List.Folds.{drop_split}
 use Rattle.tx_lines.specs.declared.cut.Cut.{Cut}
 use Rattle.tx_lines.specs.Cuts.{Partitions}
 
--- what stands in a list with one more element
+-- an element of a list with one more at the end
 pub slice_get-push : {X : Type 0} → (xs : List X) (y : X) (k : ℕ) (x : X) → slice_get (xs ++ y ∷ []) k ≡ Some x
     → (slice_get xs k ≡ Some x) ⊎ ((k ≡ length xs) × (y ≡ x))
 slice_get-push [] y zero x e = inr (refl, cc)
@@ -48,7 +48,7 @@ meets (x ∷ (y ∷ rest)) from to zero cut next h e f =
     (ap (λ c. c.to) (sym here) ∙ sym h.2.0 ∙ begins, omega arith)
 meets (x ∷ (y ∷ rest)) from to (suc k) cut next h e f = meets (y ∷ rest) x.to to k cut next h.2 e f
 
--- what stands at the cuts, one behind another, is what the list has from the first of them on
+-- the parts at the cuts, in order, are the list from the first cut on
 pub parts_of_cuts : {X : Type 0} → (xs : List X) (cuts : List Cut) (from : ℕ) → Partitions cuts from (length xs)
     → flat_map (λ cut. slice_range xs cut.from cut.to) cuts ≡ drop from xs
 parts_of_cuts xs [] from h = sym (drop_all from xs (omega arith))

@@ -27,7 +27,7 @@ width_of first later (suc k) = later
 pub record IsFirstFit (pieces : List Piece) (first later : ℕ) (lines : List Cut) : Type 0 where
   -- the lines in order hold the pieces, each once and in order, and no line is empty
   pub in_order : Partitions lines 0 (length pieces)
-  -- what stands on a line has at most the line's width
+  -- what is on a line has at most the line's width
   pub fits : (k : ℕ) (line : Cut) → slice_get lines k ≡ Some line →
       line_cells pieces line.from line.to ≤ width_of first later k
   -- the first piece of the next line, with the spaces before it, would not have fitted on the line

@@ -373,7 +373,7 @@ well_formed_at (i ∷ path) t s e h = let d = down t i path s e in
     child_of (leaf text) c k f = absurd (cc)
     child_of (node l us) c k f = child_well_formed us i c k.1 f
 
--- the tree that comes about, and what it is made of
+-- the changed tree, and what it is made of
 pub record IsMadeOf (m : Mod) (t u : WideTree) : Type 0 where
   pub old : WideTree
   pub new : WideTree

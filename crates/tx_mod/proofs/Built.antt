@@ -30,7 +30,7 @@ sound_text bytes (BadByte n) h short f = absurd (text_has_no_fault bytes (BadByt
 sound_text bytes (BadSymbol n) h short f = absurd (text_has_no_fault bytes (BadSymbol n) h short (f (λ e. cc)))
 sound_text bytes TextMemory h short f = refl
 
--- and what makes no node of a node within the limits too
+-- what makes no node, where the node is within the limits, is `Memory`
 pub sound_node : (label : List ℕ) (ts : List WideTree) (fault : TreeFault) → IsWithinLimits (node label (forest ts))
     → (fault ≢ TreeMemory → IsTreeFault label ts fault) → fault ≡ TreeMemory
 sound_node label ts (TooWide n) w f = absurd (tree_has_no_fault label ts (TooWide n) w (f (λ e. cc)))

@@ -39,21 +39,21 @@ cut_of a b w n e f ha hb = (
       ∙ ap length ha.2,
 )
 
--- after another text
+-- a cut of a text that is put after another text
 pub cut_push : (a b w : List ℕ) (o n : ℕ) → w ≡ a ++ b → n ≡ length a + o → IsText a → IsCut b o → IsCut w n
 cut_push a b w o n e f ha h =
     let p = cut_parts b o h in
     cut_of (a ++ p.front) p.back w n (e ∙ ap (λ z. a ++ z) p.is ∙ sym (append_assoc a p.front p.back))
     (omega (arith, f, p.at, length-append a p.front)) (texts_together a p.front ha p.first) p.second
 
--- before another text
+-- a cut of a text that is put before another text
 pub cut_append : (a b w : List ℕ) (o : ℕ) → w ≡ a ++ b → IsCut a o → IsText b → IsCut w o
 cut_append a b w o e h hb =
     let p = cut_parts a o h in
     cut_of p.front (p.back ++ b) w o (e ∙ ap (λ z. z ++ b) p.is ∙ append_assoc p.front p.back b) p.at p.first
     (texts_together p.back b p.second hb)
 
--- in the first of two texts
+-- a cut in the first of two texts
 pub cut_in_front : (a b w : List ℕ) (o : ℕ) → w ≡ a ++ b → IsText a → o ≤ length a → IsCut w o → IsCut a o
 cut_in_front a b w o e ha le h =
     text_cut a o ha le (subst IsText (ap (take o) e ∙ take-append-le o a b le) (cut_text w o h))
@@ -63,7 +63,7 @@ take_past [] b k o e = let same : o ≡ k = omega arith in ap (λ n. take n b) s
 take_past (x ∷ a) b k zero e = absurd (omega arith)
 take_past (x ∷ a) b k (suc o) e = ap (λ z. x ∷ z) (take_past a b k o (omega arith))
 
--- in the second of two texts
+-- a cut in the second of two texts
 pub cut_behind : (a b w : List ℕ) (o k : ℕ) → w ≡ a ++ b → o ≡ length a + k → IsText a → IsText b → IsCut w o
     → IsCut b k
 cut_behind a b w o k e f ha hb h =

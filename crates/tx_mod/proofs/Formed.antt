@@ -183,7 +183,7 @@ replaced_formed (i ∷ path) t s v e h k =
     (with_formed t (replaced d.child path v) i h
     (replaced_formed path d.child s v d.further (child_formed t d.child i h d.found) k))
 
--- a tree that comes about is within the limits
+-- a changed tree is within the limits
 pub change_limited : (m : Mod) (t u : WideTree) → changed m t ≡ Ok u → IsWithinLimits u
 change_limited m t u e =
     let d = made_of m t u e in

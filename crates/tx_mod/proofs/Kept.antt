@@ -1,4 +1,4 @@
--- Where a path is carried, the same subtree is.
+-- The path to which a path is carried leads to the same subtree.
 use Rattle.std.proofs.Common.{◌≡◌, ℕ, ◌+◌, ◌-◌, ◌<◌, ◌≤◌, Bool, true, false, leb, ltb, eqb, List, [], ◌∷◌, ◌++◌, length}
 use Rattle.std.proofs.Common.{take, drop, Option, Some, None, Ok, refl, sym, ap, subst, ◌∙◌, arith}
 use Rattle.std.specs.Prelude.{slice_get, if◌then◌else◌, is_some, option_and_then, option_map}
@@ -27,7 +27,7 @@ use Rattle.tx_mod.proofs.Shapes.{get_front, get_behind, get_take, get_drop, put_
 use Rattle.tx_mod.proofs.Shapes.{left_behind, child_in, child_is, child_stays, shape_inserted, shape_removed}
 use Rattle.tx_mod.proofs.Shapes.{shape_split, shape_joined, shape_labelled, shape_wrapped, shape_unwrapped}
 
--- ---- children that stay
+-- ---- unchanged children
 
 pub insert_stays : (s x v c : WideTree) (i k : ℕ) → inserted s i x ≡ Ok v → slice_get (children_of s) k ≡ Some c
     → slice_get (children_of v) (shifted i (extent x) k) ≡ Some c
@@ -183,7 +183,7 @@ right_child (node m ts) (node n us) c d l e f =
 
 -- ---- paths of the changed subtree
 
--- the same subtree is where the path is carried
+-- if the path is carried, it then leads to the same subtree
 abbrev Keeps : WideTree → WideTree → List ℕ → Option (List ℕ) → Type 0
 Keeps v x r o = o ≡ Some r → subtree v r ≡ Some x
 

@@ -41,7 +41,7 @@ pub record IsSummed (ts : List WideTree) (size depth wide long : ℕ) : Type 0 w
   pub wide_is : widest (forest ts) ≡ wide
   pub long_is : longest_text (forest ts) ≤ long
 
--- of two lists together
+-- the numbers of two lists together
 pub record IsOfBoth (xs ys zs : List WideTree) : Type 0 where
   pub size : total_size (forest zs) ≡ total_size (forest xs) + total_size (forest ys)
   pub depth : deepest (forest zs) ≡ max (deepest (forest xs)) (deepest (forest ys))

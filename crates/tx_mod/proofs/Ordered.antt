@@ -32,7 +32,7 @@ get_within [] k x h = absurd (cc)
 get_within (y ∷ ys) zero x h = omega arith
 get_within (y ∷ ys) (suc k) x h = let le : k < length ys = get_within ys k x h in omega (arith, le)
 
--- of one path on, and of no other
+-- the first numbers decide the order, or, where they are equal, the others do
 less_first : (i j : ℕ) (p q : List ℕ) → IsBefore (i ∷ p) (j ∷ q) → (i < j) ⊎ ((i ≡ j) × IsBefore p q)
 less_first i j p q h = h
 
@@ -47,7 +47,7 @@ abbrev Keeps : WideTree → (List ℕ → Option (List ℕ)) → Type 0
 Keeps s g = (q r q1 r1 : List ℕ) (x y : WideTree) → subtree s q ≡ Some x → subtree s r ≡ Some y → IsBefore q r
     → g q ≡ Some q1 → g r ≡ Some r1 → IsBefore q1 r1
 
--- where a test gives Some, by its answer
+-- where a test gives Some, by its outcome
 chosen : {A : Type 0} (b : Bool) (x y : Option A) (z : A) → (if b then x else y) ≡ Some z →
     ((b ≡ true) × (x ≡ Some z)) ⊎ ((b ≡ false) × (y ≡ Some z))
 chosen true x y z h = inl (refl, h)
@@ -71,7 +71,7 @@ insert_keeps s i n (k ∷ u) (l ∷ w) q1 r1 x y lq lr less e f =
     up : (i n k l : ℕ) → k < l → shifted i n k < shifted i n l
     up i n k l lt = grind arith
 
--- a number that stays or gets n less
+-- a number that is unchanged or gets n less
 remove_is : (i n k : ℕ) (u r : List ℕ) → carried_by_remove i n (k ∷ u) ≡ Some r →
     (j : ℕ) × (r ≡ j ∷ u) × (((i + n ≤ k) × (j ≡ k - n)) ⊎ ((k < i) × (j ≡ k)))
 remove_is i n k u r h = elim (chosen (nat_le (i + n) k) _ _ r h) as (λ z. (j : ℕ) × (r ≡ j ∷ u) × (((i + n ≤ k) × (j ≡ k - n)) ⊎ ((k < i) × (j ≡ k)))) [
@@ -327,12 +327,13 @@ kind_keeps (RemoveNode p i) s = unwrap_keeps s i
 
 -- ---- below the path of a modification
 
--- what is after the base is carried so, and what the base is or begins with goes
+-- A path at the base or below it is carried by g. A path above the base is carried nowhere, and every other path is
+-- unchanged.
 abbrev lifted : (List ℕ → Option (List ℕ)) → List ℕ → List ℕ → Option (List ℕ)
 lifted g base q = option_map_or (λ r. option_map (λ v. base ++ v) (g r)) (rest_behind base q)
     (if is_some (rest_behind q base) then None else Some q)
 
--- one number further: it stays
+-- where the first number is that of the base, the others are carried, and else the path is unchanged
 abbrev Deeper : (List ℕ → Option (List ℕ)) → ℕ → List ℕ → ℕ → List ℕ → List ℕ → Type 0
 Deeper g b base k u r =
     ((k ≡ b) × ((w : List ℕ) × (r ≡ k ∷ w) × (lifted g base u ≡ Some w))) ⊎ ((k ≡ b → ⊥) × (r ≡ k ∷ u))

@@ -90,7 +90,7 @@ leaf_inserted s x text more i e f h =
       },
     )
 
--- and into a node
+-- insertion into a node
 pub node_inserted : (s x : WideTree) (l m : List ℕ) (ts us : List WideTree) (i : ℕ) → s ≡ node l (forest ts)
     → x ≡ node m (forest us) → IsOkAnd (inserted s i x) IsWithinLimits
     → (i ≤ length ts) × IsTree (inserted s i x) (node l (forest (put_in ts i us)))

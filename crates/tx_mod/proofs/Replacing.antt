@@ -57,7 +57,7 @@ with_same_child (leaf text) c i e = refl
 with_same_child (node l ts) c i e = ap (λ us. node l (forest us)) (set_to_same (trees ts) i c e)
     ∙ ap (node l) (forest_trees ts)
 
--- ---- the same at the end of a path
+-- ---- a tree with another subtree at a path
 
 pub subtree_of_replaced : (path : List ℕ) (t s u : WideTree) → subtree t path ≡ Some s
     → subtree (replaced t path u) path ≡ Some u
@@ -129,7 +129,7 @@ arity_in : (t c v : WideTree) (i : ℕ) → slice_get (children_of t) i ≡ Some
 arity_in (leaf text) c v i e = absurd (cc)
 arity_in (node l ts) c v i e = omega (arith, arity_in_set (trees ts) i c v e)
 
--- ---- and at the end of a path
+-- ---- numbers of a tree with another subtree at a path
 
 pub size_of_replaced : (path : List ℕ) (t s u : WideTree) → subtree t path ≡ Some s
     → size_of (replaced t path u) + size_of s ≡ size_of t + size_of u

@@ -1,4 +1,4 @@
--- Leaves, nodes and cuts, as the calls tell them.
+-- Leaves, nodes and cuts, by what the calls return.
 use Rattle.std.proofs.Common.{◌≡◌, ℕ, ◌<◌, true, false, List, length, Some, refl, ap, ◌∙◌, arith}
 use Rattle.tx_tree.specs.Texts.{IsText, IsCut}
 use Rattle.tx_tree.specs.Cuts.{is_cut}

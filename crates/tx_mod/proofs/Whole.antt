@@ -205,7 +205,7 @@ limited_within u h =
     let d = asked_any (leb (size_of u) 8000000) (TooBig (size_of u)) _ c.1 in
     record { text = leb-true _ _ a.0; arity = leb-true _ _ b.0; depth = leb-true _ _ c.0; size = leb-true _ _ d.0 }
 
--- what is known of a change that comes about
+-- what is known of a change that is made
 pub record IsChange (m : Mod) (t s : WideTree) : Type 0 where
   pub made : WideTree
   pub at : changed_at m s ≡ Ok made

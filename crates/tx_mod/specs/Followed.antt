@@ -16,7 +16,7 @@ StaysPlace m t at =
     (u : WideTree) → IsSoundMod m → IsWellFormed t → changed m t ≡ Ok u → IsPlace t at.path at.offset
     → IsPlace u (moved_place m t at).path (moved_place m t at).offset
 
--- where a path is carried, the same subtree is
+-- the path to which a path is carried leads to the same subtree
 abbrev pub CarriesSubtree : Mod → WideTree → List ℕ → Type 0
 CarriesSubtree m t q = (u x : WideTree) (r : List ℕ) → changed m t ≡ Ok u → subtree t q ≡ Some x
     → carried_path m t q ≡ Some r → subtree u r ≡ Some x
@@ -37,7 +37,7 @@ carried_by_all [] t q = Some q
 carried_by_all (m ∷ ms) t q =
     option_and_then (λ u. option_and_then (carried_by_all ms u) (carried_path m t q)) (outcome_tree (changed m t))
 
--- carried through two lists is carried through one and then the other
+-- a path is carried through two lists as through the first and then through the second
 abbrev pub Composes : List Mod → List Mod → WideTree → List ℕ → Type 0
 Composes ms ns t q = carried_by_all (ms ++ ns) t q
     ≡ option_and_then (λ u. option_and_then (carried_by_all ns u) (carried_by_all ms t q)) (changed_by_all ms t)
@@ -48,7 +48,7 @@ PathStopsAt ms m ns t q =
     (u : WideTree) (r : List ℕ) → changed_by_all ms t ≡ Some u → carried_by_all ms t q ≡ Some r
     → carried_path m u r ≡ None → carried_by_all (ms ++ m ∷ ns) t q ≡ None
 
--- where a path is carried through all modifications, the same subtree is
+-- the path to which a path is carried through all modifications leads to the same subtree
 abbrev pub CarriesThroughAll : List Mod → WideTree → List ℕ → Type 0
 CarriesThroughAll ms t q = (u x : WideTree) (r : List ℕ) → changed_by_all ms t ≡ Some u → subtree t q ≡ Some x
     → carried_by_all ms t q ≡ Some r → subtree u r ≡ Some x

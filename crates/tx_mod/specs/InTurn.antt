@@ -13,7 +13,7 @@ use Rattle.tx_mod.specs.Mods.{path_of}
 use Rattle.tx_mod.specs.Moves.{moved_place}
 use Rattle.tx_mod.specs.Sound.{IsSoundMod}
 
--- what follows a tree, or the cause
+-- the next step from the tree of an outcome, or the cause of the outcome
 abbrev pub then_changed : (WideTree → Outcome) → Outcome → Outcome
 then_changed next (Ok u) = next u
 then_changed next (Err cause) = Err cause
@@ -42,8 +42,9 @@ cost_of (m ∷ ms) = length (path_of m) + 3 + cost_of ms
 abbrev pub AreSoundMods : List Mod → Type 0
 AreSoundMods = AllByRecursion IsSoundMod
 
--- what is known of modifications that are sound and apply to a well formed tree: the tree afterwards is well formed,
--- what undoes them gives the tree back and is allowed as many steps, and what undoes the undoing are they themselves
+-- What is known of modifications that are sound and apply to a well formed tree. The tree afterwards is well formed.
+-- What undoes them gives the tree back and is allowed as many steps. What undoes the undoing is the modifications
+-- themselves.
 pub record AreUndone (ms : List Mod) (t u : WideTree) : Type 0 where
   pub formed : IsWellFormed u
   pub within : IsWithinLimits u

@@ -18,7 +18,7 @@ abbrev pub without_child : WideTree → ℕ → WideTree
 without_child (leaf text) i = leaf text
 without_child (node l ts) i = node l (forest (taken_out (trees ts) i 1))
 
--- what gives the subtree s back, where it stood before the modification
+-- what gives the subtree s back, where it was before the modification
 abbrev pub inverse_at : Mod → WideTree → Mod
 inverse_at (Assign p x) s = Assign p s
 inverse_at (Insert p i x) s = Remove p i (extent x)

@@ -12,7 +12,7 @@ IsBefore [] (j ∷ q) = Unit {0}
 IsBefore (i ∷ p) [] = ⊥
 IsBefore (i ∷ p) (j ∷ q) = (i < j) ⊎ ((i ≡ j) × IsBefore p q)
 
--- of two trees in order the modification carries the first one before the second
+-- where two trees are in order, the modification carries the first before the second
 abbrev pub KeepsOrder : Mod → WideTree → List ℕ → List ℕ → Type 0
 KeepsOrder m t q r = (x y : WideTree) (q1 r1 : List ℕ) → subtree t q ≡ Some x → subtree t r ≡ Some y
     → IsBefore q r → carried_path m t q ≡ Some q1 → carried_path m t r ≡ Some r1 → IsBefore q1 r1

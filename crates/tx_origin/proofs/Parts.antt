@@ -1,4 +1,4 @@
--- The parts of a value, and what a node knows of them.
+-- The parts of a value, and what is known of a node by them.
 use Rattle.std.proofs.Common.{◌≡◌, ℕ, ◌+◌, ◌*◌, ◌<◌, ◌≤◌, max, List, [], ◌∷◌, ◌++◌, length, take, get_or, length-append}
 use Rattle.std.proofs.Common.{ap, refl, arith}
 use Rattle.std.proofs.lemmas.List.{take_more}

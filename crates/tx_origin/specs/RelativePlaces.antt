@@ -1,8 +1,8 @@
--- Places that are told from a path that stands elsewhere.
+-- Places that are given from a base path.
 use Rattle.std.specs.Prelude.{ℕ, List, ◌++◌, Option, Some, None, refl}
 use Rattle.std.specs.Coded.{Coded, code_by, coded×, coded_ℕ, coded_list, coded_option}
 
--- an origin, and an offset there: a place that is told from a base, where its path begins
+-- an origin, and an offset there: a place that is given from a base, where its path begins
 pub record RelativePlace : Type 0 where
   pub origin : List ℕ
   pub offset : ℕ
@@ -13,7 +13,7 @@ pub record BasedPlace : Type 0 where
   pub origin : Option (List ℕ)
   pub offset : ℕ
 
--- the path with the origin behind it; without an origin the path alone
+-- the path with the origin after it; without an origin the path alone
 abbrev pub path_below : List ℕ → Option (List ℕ) → List ℕ
 path_below base None = base
 path_below base (Some origin) = base ++ origin

@@ -1,4 +1,4 @@
--- Origins under a path: trees and values that stand deeper by it.
+-- Trees and values whose origins are put under a path.
 use Rattle.std.specs.Prelude.{ℕ, List, ◌++◌, Option}
 use Rattle.std.specs.Option.{option_map}
 use Rattle.tx_origin.specs.Values.{WideValue, WideValues, text, made, none, also}

@@ -5,7 +5,7 @@ use Rattle.std.specs.Coded.{Coded, coded_ℕ, coded_list, coded_option}
 use Rattle.std.proofs.Common.{ap, refl}
 use Rattle.tx_tree.specs.WideTree.{WideTree, Forest, leaf, node, nil, cons}
 
--- a text or a label with a list of values, and where it stands, or none
+-- a text, or a label with a list of values, and its origin or none
 mutual
   pub data WideValue : Type 0 where
     text : (words : List ℕ) → (at : Option (List ℕ)) → WideValue
@@ -51,12 +51,12 @@ abbrev mutual
   plains none = nil
   plains (also v vs) = cons (plain v) (plains vs)
 
--- where a child stands: its number behind the parent's origin
+-- the origin of a child: its number after the parent's origin
 abbrev pub child_at : Option (List ℕ) → ℕ → Option (List ℕ)
 child_at None i = None
 child_at (Some p) i = Some (p ++ i ∷ [])
 
--- a tree that stands at an origin, with the origins of its parts
+-- a tree at an origin, with the origins of its parts
 abbrev mutual
   pub whole : Option (List ℕ) → WideTree → WideValue
   whole at (leaf words) = text words at

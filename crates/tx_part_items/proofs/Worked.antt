@@ -17,7 +17,7 @@ tag label ts = node label (forest ts)
 abbrev shown : WideTree → Before → PartsShown
 shown t e = tree_shown 9 initial (map stored_part (parts 9 100 [] t e)) t
 
--- of each part its path, and the colour before it and at its end
+-- the path of each part, and the colour before it and at its end
 abbrev colors : PartsShown → List (List ℕ × List ℕ × List ℕ)
 colors s = map {B = List ℕ × List ℕ × List ℕ} (λ p. (p.path, p.before.color, p.end.color)) s.each
 

@@ -20,7 +20,7 @@ pub record PartValue : Type 0 where
   pub path : List ℕ
   pub value : WideValue
 
--- of a part that has a trace
+-- the path and the value of a part that has a trace
 abbrev pub kept_value : Stored → Option PartValue
 kept_value p = option_map (λ trace. record { path = p.path; value = trace.value }) p.trace
 
@@ -100,7 +100,7 @@ shown_as (With settings b) shower back a ps t =
     record inner { after = settings_given_back settings a inner.after }
 shown_as Shut shower back a ps t = shut_shown back a ps t
 
--- of a tree with k levels
+-- what the parts of a tree show, with k levels
 unfoldable pub parts_shown : ℕ → Shower
 parts_shown zero back a ps t = record { each = []; after = a; left = ps }
 parts_shown (suc k) back a ps t = shown_as (openness t) (parts_shown k) back a ps t

@@ -14,7 +14,7 @@ use Rattle.tx_part_layout.specs.LinesUnder.{line_under}
 abbrev ends : Line → Bool
 ends line = line.page_end
 
--- of each line whether it is the last of its page
+-- for each line, whether it is the last of its page
 abbrev pub page_ends : List Line → List Bool
 page_ends lines = map ends lines
 

@@ -39,7 +39,7 @@ if_false : (b : Bool) (o r : Option Attrs) → b ≡ false → (if b then o else
 if_false false o r h = refl
 if_false true o r h = cc
 
--- of parts with different paths, the one at the path counts
+-- where parts have different paths, the one at the path counts
 pub at_path : (ps : List PlacedPart) (path : List ℕ) (i : ℕ) (p : PlacedPart) → IsDistinct bytes_eq (laid_paths ps) →
     slice_get ps i ≡ Some p → bytes_eq p.path path ≡ true → before_at ps path ≡ Some p.laid.value.before
 unfolding IsDistinct

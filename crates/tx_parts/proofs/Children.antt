@@ -26,7 +26,7 @@ use Rattle.tx_parts.proofs.Running.{fresh, row_alone, node_start}
 
 -- ---- how much children take
 
--- of c steps and k levels
+-- c steps and k levels are enough
 abbrev pub IsWithin : ℕ → ℕ → SoFar → Type 0
 IsWithin k c a = (a.cost ≤ c) × (a.height ≤ k)
 

@@ -37,7 +37,7 @@ module _ (k c : ℕ) (e : Before) where
       (sym ((bytes_eq-Decides label (codes "with")).0 q)) (by_with ts (settings_in (trees ts)) refl)
   by_label label ts false false p q = refl
 
--- of its inner trees
+-- the trace of a tree is composed of those of its inner trees
 pub inner_are : (k c : ℕ) (t : WideTree) (e : Before) →
     evaluates (suc k) c t e ≡ composed_as (openness t) k (evaluates k) c t e
 inner_are k c (leaf words) e = refl

@@ -1,4 +1,4 @@
--- Trees one after the other in a frame: each alone, behind those before it.
+-- Trees in order in a frame: each alone, after those before it.
 use Rattle.std.proofs.Common.{◌≡◌, ℕ, ◌+◌, ◌-◌, ◌≤◌, min, max, List, [], ◌∷◌, ◌++◌, append_assoc, ap, refl, sym, ◌∙◌}
 use Rattle.std.proofs.Common.{arith}
 use Rattle.std.specs.Prelude.{Option, Some, None, map, option_and_then}
@@ -58,7 +58,7 @@ here_is f k t e s low =
 
 -- ---- all of them in the whole
 
--- behind them, by their trace
+-- the state after them, by their trace
 run_ended : (f : Frame) (k : ℕ) (path : List ℕ) (s : State) (ts : List TaggedTree) (e : Before)
     (r : Ran (List WideValue)) → each (ex k) f [] ts e (start k s.left) ≡ r →
     ran_added (map (value_under path)) s.own s.looks s.slack r ≡ run_ran k path s (run_traced k s.left r)
@@ -98,7 +98,7 @@ run_is f k path ts e s low =
     (start k s.left))
     ∙ run_ended f k path s ts (env_atop s.own e) (each (ex k) f [] ts (env_atop s.own e) (start k s.left)) refl
 
--- ---- the first, and the others behind it
+-- ---- the first, and the others after it
 
 -- with these values before the others
 ran_before : List WideValue → Ran (List WideValue) → Ran (List WideValue)
@@ -123,7 +123,7 @@ values_same : (vs : List WideValue) → map (value_under []) vs ≡ vs
 values_same [] = refl
 values_same (v ∷ vs) = ap (λ u. u ∷ map (value_under []) vs) (under_none v) ∙ ap (λ us. v ∷ us) (values_same vs)
 
--- the others, behind the first
+-- the others, after the first
 others_are : (f : Frame) (k : ℕ) (ts : List TaggedTree) (e : Before) (v : WideValue) (s : State) → s.slack ≤ k →
     each (ex k) f (v ∷ []) ts e s ≡
     ran_before (v ∷ []) (run_ran k [] s (run_framed f k s.left ts (env_atop s.own e)))

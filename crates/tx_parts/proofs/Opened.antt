@@ -265,7 +265,7 @@ by_sheller k c t e (Some shell) h =
 pub closed_is : IsSheller no_shells
 closed_is = record { shells = λ t e shell q. cc; again = λ k c t e d trace q h. refl }
 
--- of its inner trees
+-- the trace of a tree is composed of those of its inner trees, also in shells
 pub opened_is : (sheller : Sheller) → IsSheller sheller → (k c : ℕ) (t : WideTree) (e : Before) →
     evaluates (suc k) c t e ≡ composed_opened (opening sheller t e) k (evaluates k) (evaluates_in k) c t e
 opened_is sheller h k c t e = by_sheller k c t e (sheller t e) (λ shell q. h.shells t e shell q)

@@ -442,7 +442,7 @@ module _ (w : NameMap) (l : LookMap) (n : ℕ) where
           (map_numbered k below (F f) label foo root x count ns)) (sym (numbers_under base vs))
           (map_numbereds label foo root x count (integers_of vs)))
 
-      -- of as many parts
+      -- `map_parts` with as many parts
       parts_counted : (label foo root x : List ℕ) (count other : ℕ) (numbers : List TaggedTree) → count ≡ other →
           Goes (map_parts k below f label foo root x count numbers)
           (map_parts k below (F f) label foo root x other (map T numbers))

@@ -144,7 +144,7 @@ module _ (k : ℕ) (finder : Finder) (below : StandBelow finder) where
       (below (c - (1 + settings_cost ps)) (path ++ (2 * length ps) ∷ []) u (env_atop (set_by ps) e))
   open_stands Shut c path t e h = (record { below = []; path_is = sym (append-nil path); leads = refl }, tt)
 
--- those of a child in layers are in the child
+-- the parts of a child in layers are in the child
 abbrev pub StandInside : LayerFinder → Type 0
 StandInside inside = (ls : List Layer) (i c : ℕ) (path : List ℕ) (u : WideTree) (e : Before) →
     AllStand (path ++ i ∷ []) u (inside ls i c path u e)

@@ -101,7 +101,7 @@ with_trace ps trace = record {
 
 -- ---- nested
 
--- of `suc k` levels the inner trees have k
+-- the trace of a tree by its form, where the inner trees have k of `suc k` levels
 abbrev pub composed_as : Openness → ℕ → Tracer → Tracer
 composed_as (Document ts) k tracer c t e =
     if nat_le 1 c then option_map document_trace (children_from tracer (c - 1) 0 nothing_yet ts e) else None

@@ -24,7 +24,7 @@ abbrev pub ran_here : ℕ → State → Option WideTrace → Ran WideValue
 ran_here k s None = Over
 ran_here k s (Some trace) = Done trace.value (after_part k s trace)
 
--- The state of the whole behind trees one after the other, as behind one part.
+-- The state of the whole after trees in order, as after one part.
 abbrev pub after_run : ℕ → State → RunTrace → State
 after_run k s trace = record {
   own = atop trace.writes s.own;
@@ -38,7 +38,7 @@ abbrev pub run_ran : ℕ → List ℕ → State → Option RunTrace → Ran (Lis
 run_ran k path s None = Over
 run_ran k path s (Some trace) = Done (map (value_under path) trace.values) (after_run k s trace)
 
--- the one trace, and that of what comes behind it
+-- the trace of one tree, and then that of others
 abbrev pub joined : WideTrace → RunTrace → RunTrace
 joined a b = record {
   values = a.value ∷ b.values;

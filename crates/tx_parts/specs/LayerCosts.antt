@@ -77,7 +77,7 @@ layer_set_nodes held k l c e = tree_counts_from held set_nodes k (c - 1) 0 nothi
 abbrev pub Counter : Type 0
 Counter = ℕ → WideTree → Before → ℕ
 
--- in the children from number i on, after the traces of the earlier ones
+-- what is counted in the children from number i on, after the traces of the earlier ones
 abbrev pub counts_from : ℕ → Counter → ℕ → ℕ → SoFar → List WideTree → Before → ℕ
 counts_from k counter c i a [] e = 0
 counts_from k counter c i a (t ∷ ts) e =
@@ -85,13 +85,13 @@ counts_from k counter c i a (t ∷ ts) e =
     + option_map_or (λ trace. counts_from k counter c (i + 1) (with_child i a trace) ts e)
     (evaluates k (c - a.cost) t (env_atop a.writes e)) 0
 
--- of `suc k` levels the inner trees have k
+-- what is counted by the form of a tree, where the inner trees have k of `suc k` levels
 abbrev pub counts_as : Openness → ℕ → Counter → Counter
 counts_as (Document ts) k counter c t e = counts_from k counter (c - 1) 0 nothing_yet ts e
 counts_as (With ps b) k counter c t e = counter (c - (1 + settings_cost ps)) b (env_atop (set_by ps) e)
 counts_as Shut k counter c t e = 0
 
--- in a tree in layers, and what their trees cost
+-- what is counted in a tree in layers, and what their trees cost
 abbrev pub LayerCounter : Type 0
 LayerCounter = List Layer → Counter
 

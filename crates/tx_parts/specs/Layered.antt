@@ -83,7 +83,7 @@ layer_composed xs a tracer c t e =
     then option_map (layer_trace xs a) (tracer (c - layer_cost xs a) t (inside_layer xs a e))
     else None
 
--- of `suc k` levels what is inside has k
+-- the trace of layers, where what is inside has k of `suc k` levels
 abbrev pub composed_layers : ℕ → Tracer → LayerTracer → LayerTracer
 composed_layers k tracer inside [] i c t e =
     if nat_le 1 c then option_map (child_trace i) (tracer (c - 1) t e) else None
@@ -111,7 +111,7 @@ shell_trace t e trace = record {
   height = 1 + trace.height;
 }
 
--- of `suc k` levels the inner trees and the outer layer have k
+-- the trace of an open tree, where the inner trees and the outer layer have k of `suc k` levels
 abbrev pub composed_opened : Opening → ℕ → Tracer → LayerTracer → Tracer
 composed_opened (ByTree o) k tracer inside c t e = composed_as o k tracer c t e
 composed_opened (ByShell shell u) k tracer inside c t e =

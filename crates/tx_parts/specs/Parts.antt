@@ -43,7 +43,7 @@ part_cost p = paid p.steps (part_trace p)
 abbrev pub Finder : Type 0
 Finder = ℕ → List ℕ → WideTree → Before → List Part
 
--- those of the children from number i on, after the traces of the earlier ones
+-- the parts of the children from number i on, after the traces of the earlier ones
 abbrev pub parts_from : ℕ → Finder → ℕ → List ℕ → ℕ → SoFar → List WideTree → Before → List Part
 parts_from k finder c path i a [] e = []
 parts_from k finder c path i a (t ∷ ts) e =
@@ -51,7 +51,7 @@ parts_from k finder c path i a (t ∷ ts) e =
     ++ option_map_or (λ trace. parts_from k finder c path (i + 1) (with_child i a trace) ts e)
     (evaluates k (c - a.cost) t (env_atop a.writes e)) []
 
--- of `suc k` levels the inner trees have k
+-- the parts of a tree by its form, where the inner trees have k of `suc k` levels
 abbrev pub parts_as : Openness → ℕ → Finder → Finder
 parts_as (Document ts) k finder c path t e = parts_from k finder (c - 1) path 0 nothing_yet ts e
 parts_as (With ps b) k finder c path t e =
@@ -59,7 +59,7 @@ parts_as (With ps b) k finder c path t e =
 parts_as Shut k finder c path t e =
     record { path = path; tree = t; levels = suc k; steps = c; before = e } ∷ []
 
--- those of a tree in layers, which is the child of this number
+-- the parts of a tree in layers, which is the child of this number
 abbrev pub LayerFinder : Type 0
 LayerFinder = List Layer → ℕ → Finder
 

@@ -47,7 +47,7 @@ recomposed_as (With xs b) recomposer c t e ps =
     (recomposer (c - (1 + settings_cost xs)) b (env_atop (set_by xs) e) ps)
 recomposed_as Shut recomposer c t e ps = first_stored ps
 
--- that of a tree in layers, which is the child of this number
+-- the trace of a tree in layers, which is the child of this number
 abbrev pub LayerRecomposer : Type 0
 LayerRecomposer = List Layer → ℕ → Recomposer
 

@@ -10,7 +10,7 @@ use Rattle.tx_prim.specs.Operands.{every}
 use Rattle.tx_prim.specs.Items.{joined_lists}
 
 module _ {A : Type 0} where
-  -- so far, and what is left, are all
+  -- what is read so far and what is left to read are all
   abbrev pub Collects : (WideTree → Option A) → List WideTree → List A → List WideTree → Type 0
   Collects f whole so_far rest = every f whole ≡ option_map (λ r. so_far ++ r) (every f rest)
 
@@ -52,7 +52,7 @@ module _ {A : Type 0} where
   collects_all f whole so_far i le h = h ∙ ap (option_map (λ r. so_far ++ r)) (at_drop_all (every f) whole i le)
       ∙ ap Some (append-nil so_far)
 
-  -- the same of lists that are joined
+  -- the lists that are read so far and those left to read, each joined, are all
   abbrev pub Joins : (WideTree → Option (List A)) → List WideTree → List A → List WideTree → Type 0
   Joins f whole so_far rest =
       option_map joined_lists (every f whole) ≡ option_map (λ r. so_far ++ joined_lists r) (every f rest)

@@ -12,7 +12,7 @@ use Rattle.std.specs.Prelude.{option_and_then}
 use Rattle.std.proofs.Math.Nat.{mul-le-mul_left}
 use Rattle.tx_prim.specs.Lengths.{thousandths, unit_of, measured_length}
 
--- three digits behind the point
+-- three digits after the point
 pub three : (v : ℕ) (decimals : List ℕ) → number_after v (take 3 (decimals ++ codes "000")) ≡ v * 1000 + number_after 0
     (take 3 (decimals ++ codes "000"))
 three v [] = omega arith

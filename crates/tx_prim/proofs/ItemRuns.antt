@@ -53,7 +53,7 @@ some_symbol s (b ∷ rest) =
 
 -- ---- the number of items
 
--- how many items begin yet, outside a symbol and within one
+-- how many items are still to begin, outside a symbol and within one
 abbrev pub begin_yet : Bool → List ℕ → ℕ
 begin_yet false rest = length (text_items rest)
 begin_yet true rest = length (symbol_items [] rest) - 1
@@ -88,7 +88,7 @@ counted_between bytes i count count' total s s' lt e is n t =
 
 -- ---- the bytes of the first items
 
--- how many bytes stand before the end of n items more, outside a symbol and within one
+-- how many bytes are before the end of n more items, outside a symbol and within one
 abbrev pub bytes_yet : Bool → ℕ → List ℕ → ℕ
 bytes_yet false n rest = length (joined_lists (take n (text_items rest)))
 bytes_yet true n rest = length (joined_lists (take (suc n) (symbol_items [] rest)))

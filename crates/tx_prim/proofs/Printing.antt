@@ -93,7 +93,7 @@ rest_is : (ds : List ℕ) → list_all is_digit ds ≡ true → digits_rest (ds 
 rest_is ds h = ap (λ d. drop (length d) (ds ++ codes "mcell")) (front_is ds h)
     ∙ drop_at ds (codes "mcell") (length ds) refl
 
--- what a length is behind its sign
+-- the length that the bytes after a sign write
 abbrev length_unsigned : Bool → List ℕ → Option ℤ
 length_unsigned minus bytes =
     cond (nat_lt 18 (length (digits_front bytes))) None (length_behind minus (digits_front bytes) (digits_rest bytes))

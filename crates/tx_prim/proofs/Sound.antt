@@ -1,4 +1,4 @@
--- What is known to be right has no fault but want of memory.
+-- What is known to be right fails only where memory runs out.
 use Rattle.std.proofs.Common.{◌≡◌, ℕ, ◌≤◌, List, [], ◌∷◌, ◌++◌, length, take, refl, sym, subst, ◌∙◌, arith}
 use Rattle.std.proofs.lemmas.List.{append-nil, take_all}
 use Rattle.tx_base.specs.Fronts.{IsLongestFront}

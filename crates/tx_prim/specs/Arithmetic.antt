@@ -48,7 +48,7 @@ operation Add x y = x +ℤ y
 operation Subtract x y = x -ℤ y
 operation Multiply x y = x *ℤ y
 
--- from the left, where 64 bits hold what comes out of each step
+-- from the left, where 64 bits hold the result of each step
 abbrev pub folded : Operation → ℤ → List Amount → Option ℤ
 folded op x [] = Some x
 folded op x (a ∷ others) = option_and_then (λ z. folded op z others) (if_fits (operation op x (amount_size a)))
@@ -96,7 +96,7 @@ remainder (Number x) (Number y) = left_over false x y
 remainder (Length x) (Length y) = left_over true x y
 remainder a b = Failed Bad
 
--- of two operands
+-- a row for two operands
 abbrev pub of_two : (Amount → Amount → Answer) → List Amount → Answer
 of_two row (a ∷ b ∷ []) = row a b
 of_two row amounts = Failed Bad

@@ -1,4 +1,4 @@
--- The items of a text, each as it stands in the bytes: a byte, or a symbol from < to >.
+-- The items of a text, each with its bytes: a byte, or a symbol from < to >.
 use Rattle.std.specs.Prelude.{ℕ, ◌==◌, if◌then◌else◌, List, [], ◌∷◌, ◌++◌}
 use Rattle.std.specs.List.{flat_map}
 
@@ -7,7 +7,7 @@ abbrev mutual
   text_items [] = []
   text_items (b ∷ bytes) = if b == 60 then symbol_items (b ∷ []) bytes else (b ∷ []) ∷ text_items bytes
 
-  -- behind the beginning of a symbol
+  -- after the beginning of a symbol
   pub symbol_items : List ℕ → List ℕ → List (List ℕ)
   symbol_items symbol [] = symbol ∷ []
   symbol_items symbol (b ∷ bytes) =

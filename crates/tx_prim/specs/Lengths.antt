@@ -22,7 +22,7 @@ unit_of name =
     else (if bytes_eq name (codes "pt") then Some 176
     else None))))))))
 
--- a thousand times what the digits before and behind the point write, without those past the third
+-- a thousand times what the digits before and after the point write, without those past the third
 abbrev pub thousandths : List ℕ → List ℕ → ℕ
 thousandths whole decimals = number_after 0 (whole ++ take 3 (decimals ++ codes "000"))
 
@@ -31,14 +31,14 @@ abbrev pub measured_length : Bool → List ℕ → List ℕ → List ℕ → Opt
 measured_length minus whole decimals unit =
     option_and_then (λ u. if_fits (signed minus (thousandths whole decimals * u / 1000))) (unit_of unit)
 
--- the digits in front, and what stands behind them
+-- the digits in front, and what comes after them
 abbrev pub digits_front : List ℕ → List ℕ
 digits_front bytes = take_while is_digit bytes
 
 abbrev pub digits_rest : List ℕ → List ℕ
 digits_rest bytes = drop (length (digits_front bytes)) bytes
 
--- behind the digits of the whole: a point with one digit or more and a unit, or a unit, if there were digits
+-- after the digits of the whole: a point with one digit or more and a unit, or a unit, if there were digits
 abbrev pub length_behind : Bool → List ℕ → List ℕ → Option ℤ
 length_behind minus whole [] = None
 length_behind minus whole (b ∷ bytes) =

@@ -12,7 +12,7 @@ fits_word (negsuc n) = nat_lt n (2 ^ 63)
 abbrev pub if_fits : ℤ → Option ℤ
 if_fits z = if fits_word z then Some z else None
 
--- whether a minus sign stands in front, and what stands behind it
+-- whether a minus sign is in front, and what comes after it
 abbrev pub has_minus : List ℕ → Bool
 has_minus [] = false
 has_minus (b ∷ bytes) = b == 45

@@ -54,12 +54,12 @@ told which (Failed fault) = failure fault which
 
 -- ---- the rows on trees
 
--- a row for operands that are all read so, and else bad
+-- the row where all operands could be read, and else bad
 abbrev pub on_all : {A : Type 0} → (List A → Answer) → Option (List A) → Answer
 on_all row None = Failed Bad
 on_all row (Some operands) = row operands
 
--- items of a text, or children
+-- how many items a text has, or how many children a node has
 abbrev pub length_in : WideTree → ℕ
 length_in (leaf text) = length (text_items text)
 length_in (node label ts) = length (trees ts)
@@ -110,7 +110,7 @@ abbrev pub label_told : List WideTree → WideTree
 label_told (node label ts ∷ []) = leaf label
 label_told operands = failure Bad GetLabel
 
--- items of a text, or children
+-- how many items the one operand has, or how many children
 abbrev pub length_row : List WideTree → Answer
 length_row (t ∷ []) = count_answer (length_in t)
 length_row operands = Failed Bad

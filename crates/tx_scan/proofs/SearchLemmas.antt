@@ -55,7 +55,7 @@ pub first_stop_from-within : (set bytes : List ℕ) (from r : ℕ) → from ≤ 
 first_stop_from-within set bytes from r le is =
     omega (arith, prefix_len-le-length (λ x. not (is_stop set x)) (drop from bytes), length-drop from bytes)
 
--- no stop stands before it
+-- no stop is before it
 pub first_stop_from-before : (set bytes : List ℕ) (from r k : ℕ) → r ≡ first_stop_from set bytes from → from ≤ k → k < r
     → is_stop set (get_or bytes k 0) ≡ false
 first_stop_from-before set bytes from r k is le lt =
@@ -64,7 +64,7 @@ first_stop_from-before set bytes from r k is le lt =
     subst (λ b. is_stop set b ≡ false) at
     (fails_before_first (is_stop set) (drop from bytes) (k - from) 0 (omega arith))
 
--- a stop stands there, unless it is the end
+-- a stop is there, unless it is the end
 pub first_stop_from-found : (set bytes : List ℕ) (from r : ℕ) → r ≡ first_stop_from set bytes from → r < length bytes
     → is_stop set (get_or bytes r 0) ≡ true
 first_stop_from-found set bytes from r is lt =

@@ -82,7 +82,7 @@ pub is_backslash_kind : (b : ℕ) → kind_of b ≡ Backslash → b ≡ 92
 unfolding kind_of
 is_backslash_kind b e = grind arith
 
--- ---- how a byte of a text stands in a string
+-- ---- how a byte of a text is written in a string
 
 abbrev pub EscapedAs : Kind → ℕ → List ℕ → Type 0
 EscapedAs Quote b e = e ≡ 92 ∷ b ∷ []

@@ -28,7 +28,7 @@ use Rattle.tx_scm.proofs.Bounded.{IsBelow, AreBelow, below_all, below_first, bel
 abbrev pub open_of : List ℕ → List WideTree → Open
 open_of label children = record { label = label; children = children }
 
--- there is a first byte, and it stands in no label
+-- there is a first byte, and it is no letter
 abbrev pub NoLetter : List ℕ → Type 0
 NoLetter [] = ⊥
 NoLetter (b ∷ bytes) = kind_of b ≡ Letter → ⊥
@@ -63,7 +63,7 @@ module _ (bounds : Bounds) where
   lengthened_is text y opens b l g =
       ap (λ c. run bounds (only_if c (texting (text ++ b ∷ []) opens)) y) (and_from _ _ l g)
 
-  -- one byte of a text, as it stands in a string
+  -- one byte of a text, as it is written in a string
   pub text_byte : (k : Kind) (e : List ℕ) (b : ℕ) (text y : List ℕ) (opens : List Open) → kind_of b ≡ k
       → EscapedAs k b e → bounds.longer text ≡ true → begins_text (text ++ b ∷ []) ≡ true
       → run bounds (texting text opens) (e ++ y) ≡ run bounds (texting (text ++ b ∷ []) opens) y
@@ -146,7 +146,7 @@ module _ (bounds : Bounds) where
   unfolding step_between
   close_step y opens = ap (λ k. run bounds (step_between bounds opens k) y) closes_kind
 
--- ---- what comes behind a label
+-- ---- what comes after a label
 
 pub NoLetter-white : (w y : List ℕ) → AreWhite w → NoLetter y → NoLetter (w ++ y)
 NoLetter-white [] y h n = n

@@ -28,7 +28,7 @@ in_escape (Some place) depth = only_if (is_some (text_step place 34)) (Escaping 
 abbrev pub place_of : List ℕ → Option TextPlace
 place_of text = text_run (Some BetweenItems) text
 
--- where the scan stands where the machine does
+-- where the scan is when the machine is in a state
 abbrev pub spot_of : State → Option Spot
 spot_of (between opens) = Some (Between (length opens))
 spot_of (opened opens) = Some (Opened (length opens))

@@ -1,4 +1,5 @@
--- Where the scan stands is a front, and where it stops nothing longer is one. The table of the place where it stops.
+-- The bytes that the scan takes are a front, and where it stops nothing longer is a front. The table of the place where
+-- it stops.
 use Rattle.std.proofs.Common.{◌≡◌, ℕ, suc, ◌+◌, ◌<◌, ◌≤◌, Bool, true, false, List, [], ◌∷◌, ◌++◌, length, take, get_or}
 use Rattle.std.proofs.Common.{Option, Some, None, is_some, refl, sym, ap, subst, ◌∙◌, append_assoc, add-one, arith, inl}
 use Rattle.std.proofs.Common.{inr, ⊎_elim}
@@ -43,7 +44,7 @@ GoesOn x = (more : List ℕ) × AreBytes more × SpellsSome Spells (x ++ more)
 
 -- ---- what is open can be closed
 
--- behind a closing bracket more
+-- what can be continued after one more closing bracket can be continued
 close_one : (x : List ℕ) → GoesOn (x ++ 41 ∷ []) → GoesOn x
 close_one x c =
     (41 ∷ c.0, (omega arith, c.1), (c.2.0, subst (λ z. Spells z c.2.0) (append_assoc x (41 ∷ []) c.0) c.2.1))
@@ -54,7 +55,7 @@ close_all (o ∷ opens) t x h =
     let grown : Open = record { label = o.label; children = o.children ++ t ∷ [] } in
     close_one x (close_all opens (node_of grown) (x ++ 41 ∷ []) (close_took wide (grown ∷ opens) x h))
 
--- behind these bytes more stands a whole tree
+-- bytes that end in a whole tree after some more bytes can be continued
 close_tree : (opens : List Open) (t : WideTree) (x more p y : List ℕ) → AreBytes more → OpensTook opens p
     → SpellsTree y t → x ++ more ≡ p ++ y → GoesOn x
 close_tree opens t x more p y small h k e =
@@ -135,7 +136,7 @@ closes (escaping text opens) x s h e =
 closes (whole t) x s h e = ([], tt, (t, subst (λ z. Spells z t) (sym (append-nil x)) h))
 closes failed x s h e = absurd cc
 
--- where the scan stands, the machine does
+-- the scan is where the machine is
 stands : (x : List ℕ) (s : Spot) → spots start x ≡ Some s → spot_of (run wide (between []) x) ≡ Some s
 stands x s e = run_spots x (between []) ∙ e
 
@@ -145,7 +146,7 @@ took x = run_took wide x [] (between []) tt
 pub goes_on : (x : List ℕ) (s : Spot) → spots start x ≡ Some s → GoesOn x
 goes_on x s e = closes (run wide (between []) x) x s (took x) (stands x s e)
 
--- by whatever numbers
+-- what continues x may be any numbers
 goes_on_by_some : (x : List ℕ) (s : Spot) → spots start x ≡ Some s → (more : List ℕ) × SpellsSome Spells (x ++ more)
 goes_on_by_some x s e = let c = goes_on x s e in (c.0, c.2)
 
@@ -160,7 +161,7 @@ not_stuck x more t h e =
     ∙ sym (spots-append x more start) ∙ whole_scan (x ++ more) t h in
     absurd cc
 
--- behind bytes that can be continued the scan stands, and behind no others
+-- bytes can be continued exactly if the scan takes them all
 pub front_closes_by_bytes : (x : List ℕ) → is_some (spots start x) ≡ true → GoesOn x
 front_closes_by_bytes x h = by_spot (spots start x) refl h
   where

@@ -60,7 +60,7 @@ module _ (counts : List ℕ) (text arity depth size : ℕ) where
   unfolding outside_step
   close_step n y = ap (λ k. measured (outside_step (at_rest (n ∷ counts) text arity depth size) k) y) closes_kind
 
-  -- one byte of a text, as it stands in a string
+  -- one byte of a text, as it is written in a string
   text_byte : (k : Kind) (e : List ℕ) (b n : ℕ) (y : List ℕ) → kind_of b ≡ k → EscapedAs k b e
       → measured (in_string n counts text arity depth size) (e ++ y) ≡ measured
       (in_string (n + 1) counts text arity depth (size + 1)) y
@@ -148,7 +148,7 @@ mutual
       (max depth (length (n ∷ counts) + depth_of t)) (size + size_of t) h.2 y (omega arith) h.5
       ∙ same_counts counts _ _ _ _ _ _ _ _ _ _ y (omega arith) (omega arith) (omega arith) (omega arith) (omega arith)
 
--- the numbers behind all bytes are those of the tree
+-- the numbers after all bytes are those of the tree
 pub measures : (bytes : List ℕ) (t : WideTree) → Spells bytes t → Measures (measured empty_gauge bytes) t
 measures bytes t h =
     let is : measured empty_gauge bytes ≡ at_rest [] (max 0 (text_length_of t)) (max 0 (arity_of t))

@@ -127,7 +127,7 @@ pub children_end : (items : List WideTree) (i : ℕ) (x w : List ℕ) → length
 children_end items i x w le white = ap (λ ts. and_then (behind_trees (forest ts) x) closing) (drop_all i items le)
     ∙ ap (λ w. behind_bytes (41 ∷ []) w) (sym white)
 
--- ---- the answer
+-- ---- the result
 
 pub not_spelled : (bytes w : List ℕ) (t : WideTree) → w ≡ behind_white bytes → behind_tree t w ≡ None → Spells bytes t
     → ⊥

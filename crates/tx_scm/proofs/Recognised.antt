@@ -13,7 +13,7 @@ use Rattle.tx_scm.specs.Recognising.{behind_white, behind_bytes, and_then, behin
 
 -- ---- white
 
--- white, and what stands behind it
+-- white, and what comes after it
 pub white_parts : (bytes : List ℕ) → (w : List ℕ) × AreWhite w × (bytes ≡ w ++ behind_white bytes)
 white_parts [] = ([], tt, refl)
 white_parts (b ∷ bytes) =

@@ -91,7 +91,7 @@ module _ (bounds : Bounds) (n : ℕ) where
   step_sized (whole t) k b h = whole_sized k t h
   step_sized failed k b h = tt
 
--- what was begun is a part of the tree that it comes to
+-- what was begun is a part of the tree that it becomes
 end_sized : (s : State) (t : WideTree) (n : ℕ) → IsSized n s → completes (within the_limits) s [] ≡ Some t
     → n ≤ size_of t
 end_sized (whole u) t n h e = let same : u ≡ t = cc in omega (arith, h, ap size_of same)
@@ -118,7 +118,7 @@ too_large bytes x s n sized past same =
           absurd (omega (arith, (found bytes t (sym e)).1.size, never_smaller x s t n sized (sym same ∙ e), past))
     ] refl
 
--- ---- behind a token
+-- ---- after a token
 
 -- a closing bracket makes nothing larger
 pub closes_sized : (n m : ℕ) (w : Option WideTree) (opens : List Open) (t : State) → is_some w ≡ false → m ≡ n

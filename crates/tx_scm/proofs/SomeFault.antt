@@ -25,7 +25,7 @@ start = Some (Between 0)
 abbrev HasFault : List ℕ → Type 0
 HasFault bytes = (f : ReadFault) × IsSchemeFault bytes f
 
--- the scan stops at the byte behind x
+-- the scan stops at the byte after x
 stops_here : (x y : List ℕ) (b : ℕ) (s : Spot) → spots start x ≡ Some s → step s (kind_of b) b ≡ None
     → HasFault (x ++ b ∷ y)
 stops_here x y b s e stop =
@@ -36,7 +36,7 @@ stops_here x y b s e stop =
           (ap (λ z. spots start z) (take-append_seam x (b ∷ y)) ∙ e) (ap (λ c. step s (kind_of c) c) is ∙ stop),
     )
 
--- the scan stops within y, or stands behind it
+-- the scan stops within y, or goes on after it
 scan_on : (y x : List ℕ) (s : Spot) → spots start x ≡ Some s → ((t : Spot) × (spots start (x ++ y) ≡ Some t))
     ⊎ HasFault (x ++ y)
 scan_on [] x s e = inl (s, ap (λ z. spots start z) (append-nil x) ∙ e)

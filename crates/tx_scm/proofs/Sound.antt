@@ -1,4 +1,4 @@
--- What is read is spelled so, and is within the limits.
+-- The bytes spell the tree that is read, and it is within the limits.
 use Rattle.std.proofs.Common.{◌≡◌, ℕ, ◌≤◌, Bool, true, false, ltb, ◌&&◌, List, [], ◌∷◌, ◌++◌, length, Some, refl, sym}
 use Rattle.std.proofs.Common.{subst, append_assoc, length-append, arith}
 use Rattle.std.specs.List.{flat_map}
@@ -27,7 +27,7 @@ use Rattle.tx_scm.proofs.Bounded.{below_kept, within_below}
 
 -- ---- trees
 
--- a tree more behind white
+-- one more tree, after white
 one_more : (ts : List WideTree) (t : WideTree) (x w y : List ℕ) → SpellsTrees x (forest ts) → AreWhite w
     → SpellsTree y t → SpellsTrees (x ++ (w ++ y)) (forest (ts ++ t ∷ []))
 one_more [] t x w y h white k = (w, y, [], white, k, refl, rw (h, append-nil y) refl)
@@ -295,7 +295,7 @@ whole_from : (s : State) (t : WideTree) → tree_in s ≡ Some t → s ≡ whole
 whole_from (whole u) t e = cc
 whole_from _ t e = absurd cc
 
--- what the machine reads is spelled so, and is within the limits
+-- the bytes spell the tree that the machine reads, and it is within the limits
 pub sound : (x : List ℕ) (t : WideTree) → completes (within the_limits) (between []) x ≡ Some t
     → Spells x t × IsWithinLimits t
 sound x t e =

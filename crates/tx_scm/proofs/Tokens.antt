@@ -32,7 +32,7 @@ use Rattle.tx_scm.proofs.Complete.{NoLetter, label_run, open_step}
 use Rattle.tx_scm.proofs.Making.{leads_more}
 use Rattle.tx_scm.proofs.Runs.{failed_run, step_more, step_fails}
 
--- ---- one byte, and one token behind the other
+-- ---- one byte, and one token after the other
 
 module _ (bytes : List ℕ) (s : State) (at b : ℕ) (lt : at < length bytes) (is : get_or bytes at 0 ≡ b) where
   pub byte_goes : (t : State) → (t ≡ failed → ⊥) → t ≡ step (within the_limits) s (kind_of b) b
@@ -150,7 +150,7 @@ module _ (bounds : Bounds) (opens : List Open) where
 
 module _ (bytes : List ℕ) (opens : List Open) (at from count : ℕ) (lt : at < length bytes)
     (is : get_or bytes at 0 ≡ 40) (rest : drop from bytes ≡ behind_white (drop (at + 1) bytes)) where
-  -- what stands behind the white
+  -- what comes after the white
   abbrev pub tail : List ℕ
   tail = slice_range bytes from (length bytes)
 
@@ -274,7 +274,7 @@ module _ (bytes : List ℕ) (opens : List Open) (at : ℕ) (lt : at < length byt
       byte_goes bytes (between opens) at 34 lt is (texting [] opens) (λ e. cc)
       (sym (quote ∙ ap (λ c. only_if c (texting [] opens)) h))
 
--- the byte behind a backslash
+-- the byte after a backslash
 module _ (bytes text : List ℕ) (opens : List Open) (at : ℕ) (lt : at < length bytes) (is : get_or bytes at 0 ≡ 92) where
   backslash : escaping text opens ≡ step (within the_limits) (texting text opens) (kind_of 92) 92
   unfolding step_texting
@@ -331,7 +331,7 @@ module _ (bytes text : List ℕ) (opens : List Open) (at : ℕ) (lt : at < lengt
         (byte_goes bytes (escaping text opens) (at + 1) b next next_is (texting (text ++ b ∷ []) opens) (λ e. cc)
         (sym (escaped h ∙ ap (λ c. only_if c (texting (text ++ b ∷ []) opens)) good))))
 
--- the quote behind a text
+-- the quote after a text
 
 put_stands : (t : WideTree) (opens : List Open) → put_tree t opens ≡ failed → ⊥
 put_stands t [] e = cc

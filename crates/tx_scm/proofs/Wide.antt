@@ -102,7 +102,7 @@ module _ (bounds : Bounds) where
       (run_agrees x (step wide s (kind_of b) b)))
       (step_agrees s (kind_of b) b)
 
-  -- what a machine with bounds comes to, the one without comes to
+  -- where a machine with bounds gets to, the one without gets to
   comes_too : (x : List ℕ) (s t : State) → (t ≡ failed → ⊥) → run bounds s x ≡ t → run wide s x ≡ t
   comes_too x s t n e = ⊎_elim (λ f. absurd (n (sym e ∙ f))) (λ f. sym f ∙ e) (run_agrees x s)
 

@@ -8,7 +8,7 @@ abbrev mutual
   scheme_text (leaf text) = string_of text
   scheme_text (node label ts) = 40 ∷ (label ++ (scheme_texts ts ++ 41 ∷ []))
 
-  -- the children, each behind a space
+  -- the children, each after a space
   pub scheme_texts : Forest → List ℕ
   scheme_texts nil = []
   scheme_texts (cons t ts) = 32 ∷ (scheme_text t ++ scheme_texts ts)

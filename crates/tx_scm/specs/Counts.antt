@@ -1,4 +1,4 @@
--- A count that stands still at its greatest value, 2^64 - 1. Private clauses cite it.
+-- A count that stops at its greatest value, 2^64 - 1. Private clauses cite it.
 use Rattle.std.specs.Prelude.{ℕ, min}
 
 abbrev pub capped : ℕ → ℕ

@@ -13,7 +13,7 @@ pub record Open : Type 0 where
   pub label : List ℕ
   pub children : List WideTree
 
--- where the reading stands, behind which open brackets, the innermost first
+-- where the reading is, and the open brackets around it, the innermost first
 pub data State : Type 0 where
   between : (opens : List Open) → State
   opened : (opens : List Open) → State
@@ -23,7 +23,7 @@ pub data State : Type 0 where
   whole : (t : WideTree) → State
   failed : State
 
--- what is let in: one tree more in the innermost bracket, one byte more behind a text, a finished node
+-- what is let in: one more tree in the innermost bracket, one more byte of a text, a finished node
 pub record Bounds : Type 0 where
   pub room : List Open → Bool
   pub longer : List ℕ → Bool
@@ -133,7 +133,7 @@ tree_in _ = None
 abbrev pub completes : Bounds → State → List ℕ → Option WideTree
 completes bounds s bytes = tree_in (run bounds s bytes)
 
--- the same within the limits of trees
+-- the tree that the bytes complete, within the limits of trees
 unfoldable pub reads : State → List ℕ → Option WideTree
 reads s bytes = completes (within the_limits) s bytes
 

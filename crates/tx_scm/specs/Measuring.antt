@@ -8,8 +8,8 @@ use Rattle.tx_scm.specs.declared.measures.Part.{Part}
 use Rattle.tx_scm.specs.declared.measures.Part.TheVariants.{Outside, Inside, Escaped}
 use Rattle.tx_scm.specs.Kinds.{kind_of}
 
--- What was measured: the greatest text length, arity and depth, the size, and the children so far of each open bracket,
--- of the innermost first.
+-- What was measured: the greatest text length, arity and depth, the size, and how many children each open bracket has
+-- so far, the innermost first.
 pub record Gauge : Type 0 where
   pub part : Part
   pub counts : List ℕ
@@ -54,7 +54,7 @@ outside_step g Quote = gauge_begun g (Inside 0) g.counts
 outside_step g Closes = gauge_closed g g.counts
 outside_step g _ = g
 
--- a byte more of a text of so many
+-- one more byte of a text that has so many
 abbrev pub gauge_longer : Gauge → ℕ → Gauge
 gauge_longer g n =
     record {
@@ -88,7 +88,7 @@ step_in (Escaped n) g kind = gauge_longer g n
 abbrev pub step : Gauge → Kind → Gauge
 step g kind = step_in g.part g kind
 
--- behind bytes more
+-- the gauge after more bytes
 abbrev pub measured : Gauge → List ℕ → Gauge
 measured g [] = g
 measured g (b ∷ bytes) = measured (step g (kind_of b)) bytes

@@ -1,14 +1,14 @@
--- What stands behind a given tree at the front of bytes.
+-- What comes after a given tree at the front of bytes.
 use Rattle.std.specs.Prelude.{◌≡◌, ℕ, ◌==◌, if◌then◌else◌, ◌≤◌, List, [], ◌∷◌, length, drop, Option, Some, None}
 use Rattle.tx_tree.specs.WideTree.{WideTree, Forest, leaf, node, nil, cons}
 use Rattle.tx_scm.specs.Spelling.{is_white, string_of}
 
--- what stands behind white
+-- what comes after white
 abbrev pub behind_white : List ℕ → List ℕ
 behind_white [] = []
 behind_white (b ∷ bytes) = if is_white b then behind_white bytes else b ∷ bytes
 
--- what stands behind these bytes, if they come first
+-- what comes after these bytes, if they come first
 abbrev pub behind_bytes : List ℕ → List ℕ → Option (List ℕ)
 behind_bytes [] bytes = Some bytes
 behind_bytes (a ∷ wanted) [] = None
@@ -31,7 +31,7 @@ abbrev mutual
   behind_trees nil bytes = Some bytes
   behind_trees (cons t ts) bytes = and_then (behind_tree t (behind_white bytes)) (λ x. behind_trees ts x)
 
--- the place found is an end of the bytes, and what stands behind it is the rest
+-- the place, if one was found, is within the bytes, and the rest is what comes after it
 abbrev pub EndsWith : List ℕ → Option ℕ → Option (List ℕ) → Type 0
 EndsWith bytes None rest = rest ≡ None
 EndsWith bytes (Some end) rest = (end ≤ length bytes) × (rest ≡ Some (drop end bytes))

@@ -10,7 +10,7 @@ abbrev pub opens_size : List Open → ℕ
 opens_size [] = 0
 opens_size (o ∷ opens) = 1 + total_size (forest o.children) + opens_size opens
 
--- so large is what was begun
+-- what was begun has size n
 abbrev pub IsSized : ℕ → State → Type 0
 IsSized n failed = Unit {0}
 IsSized n (between opens) = n ≡ opens_size opens
@@ -26,13 +26,13 @@ begun_by Opens = 1
 begun_by Quote = 1
 begun_by _ = 0
 
--- a byte in a string, unless it ends the string or escapes the next
+-- a byte in a string counts 1, unless it ends the string or escapes the next
 abbrev pub texted_by : Kind → ℕ
 texted_by Quote = 0
 texted_by Backslash = 0
 texted_by _ = 1
 
--- by so much a byte of this kind makes it larger
+-- by how much a byte of this kind makes the size larger
 abbrev pub grown_by : State → Kind → ℕ
 grown_by (between opens) kind = begun_by kind
 grown_by (naming label opens) kind = begun_by kind

@@ -12,7 +12,7 @@ is_white b = b == 9 || b == 10 || b == 13 || b == 32
 abbrev pub AreWhite : List ℕ → Type 0
 AreWhite = AllByRecursion (λ b. is_white b ≡ true)
 
--- a byte of a text as it stands in a string: a quote and a backslash behind a backslash
+-- a byte of a text as it is written in a string: a quote and a backslash after a backslash
 abbrev pub escaped : ℕ → List ℕ
 escaped b = if b == 34 || b == 92 then 92 ∷ b ∷ [] else b ∷ []
 
@@ -20,7 +20,7 @@ escaped b = if b == 34 || b == 92 then 92 ∷ b ∷ [] else b ∷ []
 abbrev pub string_of : List ℕ → List ℕ
 string_of text = 34 ∷ (flat_map escaped text ++ 34 ∷ [])
 
--- The bytes are the tree, with no white round it. White may stand behind an opening bracket, before each child, and
+-- The bytes are the tree, with no white round it. White may come after an opening bracket, before each child, and
 -- before the closing bracket.
 abbrev mutual
   pub SpellsTree : List ℕ → WideTree → Type 0
@@ -29,7 +29,7 @@ abbrev mutual
       (before children behind : List ℕ) × AreWhite before × IsLabel label × SpellsTrees children ts × AreWhite behind
       × (bytes ≡ 40 ∷ (before ++ (label ++ (children ++ (behind ++ 41 ∷ [])))))
 
-  -- trees one after the other
+  -- trees in order
   pub SpellsTrees : List ℕ → Forest → Type 0
   SpellsTrees bytes nil = bytes ≡ []
   SpellsTrees bytes (cons t ts) = (white first others : List ℕ) × AreWhite white × SpellsTree first t

@@ -12,7 +12,7 @@ use Rattle.tx_scm.specs.declared.spots.Spot.{Spot}
 use Rattle.tx_scm.specs.declared.spots.Spot.TheVariants.{Between, Opened, Naming, Texting, Escaping, Whole}
 use Rattle.tx_scm.specs.Kinds.{kind_of}
 
--- behind how many open brackets
+-- how many brackets are open
 abbrev pub depth_in : Spot → ℕ
 depth_in (Between depth) = depth
 depth_in (Opened depth) = depth
@@ -21,12 +21,12 @@ depth_in (Texting place depth) = depth
 depth_in (Escaping place depth) = depth
 depth_in Whole = 0
 
--- behind a tree in so many brackets
+-- after a tree in so many brackets
 abbrev pub after_tree : ℕ → Spot
 after_tree zero = Whole
 after_tree (suc depth) = Between (suc depth)
 
--- behind a closing bracket
+-- after a closing bracket
 abbrev pub closed : ℕ → Option Spot
 closed zero = None
 closed (suc depth) = Some (after_tree depth)
@@ -59,12 +59,12 @@ in_text (Some place) depth = Some (Texting place depth)
 abbrev pub lengthened : TextPlace → ℕ → ℕ → Option Spot
 lengthened place depth b = in_text (text_step place b) depth
 
--- behind the quote that ends a text
+-- after the quote that ends a text
 abbrev pub text_ends : TextPlace → ℕ → Option Spot
 text_ends BetweenItems depth = Some (after_tree depth)
 text_ends (InSymbol length) depth = None
 
--- A backslash escapes a quote or a backslash. A text goes on with both, or with neither, so a quote stands for both
+-- A backslash escapes a quote or a backslash. A text goes on with both, or with neither, so only a quote is tested
 -- here.
 unfoldable pub texting_step : TextPlace → ℕ → Kind → ℕ → Option Spot
 texting_step place depth Quote b = text_ends place depth
@@ -88,7 +88,7 @@ step (Texting place depth) kind b = texting_step place depth kind b
 step (Escaping place depth) kind b = escaping_step place depth kind b
 step Whole kind b = whole_step kind
 
--- behind bytes more
+-- where the scan is after more bytes
 abbrev pub spots : Option Spot → List ℕ → Option Spot
 spots None bytes = None
 spots (Some s) [] = Some s
@@ -103,6 +103,6 @@ fault_at (Texting place depth) at = BadText at
 fault_at (Escaping place depth) at = BadEscape at
 fault_at Whole at = After at
 
--- the scan of a file stands somewhere behind these first bytes
+-- the scan of a file goes on after these first bytes
 abbrev pub scan_goes_on : List ℕ → Bool
 scan_goes_on bytes = is_some (spots (Some (Between 0)) bytes)

@@ -1,4 +1,4 @@
--- Where the reader stands, as contracts see it.
+-- Where the reader is, as contracts see it.
 use Rattle.std.specs.Prelude.{◌≡◌, ℕ, ◌+◌, ◌<◌, ◌≤◌, List, [], ◌∷◌, length, drop, map, reverse, Option, Some, None}
 use Rattle.tx_tree.specs.WideTree.{WideTree, forest, nodes_of, total_nodes}
 use Rattle.tx_scm.specs.declared.kinds.Kind.{Kind}
@@ -37,7 +37,7 @@ made_in (between opens) kind = made_by kind
 made_in (naming label opens) kind = made_by kind
 made_in _ kind = 0
 
--- so many steps at most were counted from a beginning on
+-- the steps are at most `from` and the nodes that the state holds
 abbrev pub IsCounted : ℕ → ℕ → State → Type 0
 IsCounted from steps failed = Unit {0}
 IsCounted from steps (between opens) = steps ≤ from + nodes_in opens
@@ -65,7 +65,7 @@ abbrev pub Goes : List ℕ → State → ℕ → Option ℕ → State → Type 0
 Goes bytes s at None t = reads s (drop at bytes) ≡ None
 Goes bytes s at (Some end) t = GoesTo bytes s at t end
 
--- the same where what was found tells how
+-- the place where the bytes go on, in a state made of what was found, unless no tree is read
 abbrev pub GoesBehind : List ℕ → State → ℕ → (List ℕ → State) → Option (List ℕ × ℕ) → Type 0
 GoesBehind bytes s at after None = reads s (drop at bytes) ≡ None
 GoesBehind bytes s at after (Some found) = GoesTo bytes s at (after found.0) found.1

@@ -21,7 +21,7 @@ use Rattle.tx_session.proofs.Turning.{same_seen}
 use Rattle.tx_session.proofs.Lining.{script_lines_once, long_unread}
 use Rattle.tx_session.proofs.Openings.{OneOutcome}
 
--- of two readings that don't run out of memory
+-- two readings of a text that don't run out of memory are one
 pub one_reading : (text : List ℕ) (a b : Reading) → a ≢ unread → b ≢ unread → IsLineRead text a → IsLineRead text b
     → a ≡ b
 one_reading text unread b n m h k = absurd (n refl)

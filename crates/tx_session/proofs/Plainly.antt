@@ -276,7 +276,7 @@ pub plain_done : (before after : SeenWorld) (it : Command) (reply : List ℕ) �
 plain_done before after it reply h =
     plain_answer before.session.width before.session.height before.session.state it after.session.state reply h.answer
 
--- of the steps that are printed
+-- the reply with the number of steps is plain
 pub plain_told : (n : ℕ) → IsPlainReply (work_reply n)
 plain_told n = begun (work_reply n) refl
 

@@ -116,7 +116,7 @@ reached s ss r c a b d e =
     ∙ ap (λ x. x && nat_le c s.last) (le_yes s.first c d) ∙ le_yes c s.last e
     )
 
--- ---- what was set, told in two ways
+-- ---- what was set, given in two ways
 
 pub told_by : (f g : ℕ → Option Side) (sides : List Side) (next : List ℕ)
     → ((k : ℕ) → k < length sides → f k ≡ g k) → Painted f sides next → Painted g sides next

@@ -31,7 +31,7 @@ all_more {X} {Y} f xs ys i x y h e s k =
     let now : map f (drop i xs) ≡ Some y ∷ rest = ap (λ l. map f l) (at_drop xs i x h e) ∙ ap (λ o. o ∷ rest) s in
     k ∙ ap (λ l. option_map (λ zs. ys ++ zs) (all_some l)) now ∙ front_some y ys (all_some rest)
 
--- one lacks
+-- one is missing
 pub all_fails : {X Y : Type 0} → (f : X → Option Y) (xs : List X) (ys : List Y) (i : ℕ) (x : X)
     → i < length xs → x ≡ get_or xs i x → f x ≡ None
     → all_some (map f xs) ≡ option_map (λ zs. ys ++ zs) (all_some (map f (drop i xs)))

@@ -15,7 +15,7 @@ abbrev pub column_widths : List (List ℕ) → List ℕ
 column_widths [] = []
 column_widths (row ∷ rows) = wider row (column_widths rows)
 
--- the cells before what stands at this side of so many free cells
+-- how many of the free cells are before a cell with this side
 abbrev pub left_pad : Side → ℕ → ℕ
 left_pad Left free = 0
 left_pad Center free = free / 2
@@ -29,7 +29,7 @@ abbrev pub row_pads : (Side → ℕ → ℕ) → List ℕ → List Side → List
 row_pads pad (n ∷ ns) (s ∷ ss) (w ∷ ws) = pad s (n - w) ∷ row_pads pad ns ss ws
 row_pads pad columns sides widths = []
 
--- those of the rows
+-- the pads of the rows
 abbrev pub all_pads : (Side → ℕ → ℕ) → List ℕ → List (List Side) → List (List ℕ) → List (List ℕ)
 all_pads pad columns (ss ∷ sss) (ws ∷ wss) = row_pads pad columns ss ws ∷ all_pads pad columns sss wss
 all_pads pad columns sides widths = []

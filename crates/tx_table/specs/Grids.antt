@@ -7,7 +7,7 @@ use Rattle.tx_origin.specs.Values.{WideValue, text, made, each_of}
 use Rattle.tx_table.specs.declared.grids.Grid.{Grid}
 use Rattle.tx_table.specs.Settings.{parts_if, settings_in, sides_of}
 
--- all of them, or None where one lacks
+-- all of them, or None where one is missing
 abbrev pub all_some : {X : Type 0} → List (Option X) → Option (List X)
 all_some [] = Some []
 all_some (None ∷ os) = None
@@ -28,7 +28,7 @@ one_of (v ∷ (w ∷ ws)) = None
 abbrev pub only_part : List ℕ → WideValue → Option WideValue
 only_part label v = option_and_then one_of (parts_if label v)
 
--- what stands in a `cell` with one child
+-- the one child of a `cell`
 abbrev pub cell_value : WideValue → Option WideValue
 cell_value v = only_part (codes "cell") v
 

@@ -15,8 +15,8 @@ abbrev pub last_set : List Setting → ℕ → ℕ → Option Side
 last_set [] r c = None
 last_set (s ∷ ss) r c = option_or (last_set ss r c) (set_by s r c)
 
--- These sides were set so far, where the others stand at the left. From each column `next` leads to the next one that may
--- not be set yet, over columns that are; from one that isn't set it leads to itself.
+-- These sides were set so far, and the others are left. From each column `next` leads to the next one that may not be
+-- set yet, over columns that are set. From one that isn't set it leads to itself.
 pub record Painted (done : ℕ → Option Side) (sides : List Side) (next : List ℕ) : Type 0 where
   pub long : length next ≡ length sides
   pub each : (k : ℕ) → k < length sides → get_or sides k Left ≡ unwrap_or (done k) Left

@@ -70,11 +70,11 @@ setting_of rows columns v = option_and_then (setting_from rows columns) (parts_i
 abbrev pub is_inside : Setting → ℕ → ℕ → Bool
 is_inside s r c = (nat_le s.top r && nat_le r s.bottom) && (nat_le s.first c && nat_le c s.last)
 
--- a setting counts over the side that stood before it
+-- a setting replaces the side before it, where the cell is inside the setting
 abbrev pub side_over : ℕ → ℕ → Side → Setting → Side
 side_over r c side s = if is_inside s r c then s.side else side
 
--- the side of a cell: that of the last setting inside which it stands, or else the left
+-- the side of a cell: that of the last setting inside which it is, or else the left
 abbrev pub side_at : List Setting → ℕ → ℕ → Side
 side_at settings r c = fold (side_over r c) Left settings
 

@@ -1,4 +1,4 @@
--- What stands at a cut of a text: an item, and behind it another cut.
+-- What is at a cut of a text: an item, and after it another cut.
 use Rattle.std.proofs.Common.{◌≡◌, ℕ, ◌+◌, ◌-◌, ◌<◌, true, not, ◌==◌, cond, List, [], ◌∷◌, ◌++◌, length, take}
 use Rattle.std.proofs.Common.{drop, get_or, refl, sym, ap, subst, ◌∙◌, arith, append_assoc, length-append, append-nil}
 use Rattle.std.specs.Prelude.{encode_utf8}
@@ -14,7 +14,7 @@ use Rattle.tx_text.specs.Displays.{item_text, display_text}
 use Rattle.tx_text.specs.Clusters.{items_of, item_beginning_at}
 use Rattle.tx_text.proofs.Reading.{items_again}
 
--- an item stands at a place, and behind it is a cut
+-- an item is at a place, and after it is a cut
 pub record Stands (bytes : List ℕ) (at : ℕ) (item : Item) : Type 0 where
   pub is_item : IsItem item
   pub alone : item_beginning_at bytes at ≡ item ∷ []
@@ -116,7 +116,7 @@ symbol_stands bytes at name h lt opened e = let found = stands bytes at h lt in 
         let P : List ℕ → Type 0 = λ x. SymbolStands bytes at x in
         subst P (sym same) (record { is_name = s.is_item; there = s; long = whole })
 
--- what `show_item` says of an item that stands at a place
+-- the display text of the item at a place
 pub text_there : (text : List ℕ) (at : ℕ) (item : Item) → Stands text at item
     → display_text (item_beginning_at text at) ≡ item_text item
 text_there text at item s = ap display_text s.alone ∙ append-nil (item_text item)

@@ -32,7 +32,7 @@ use Rattle.tx_text.specs.declared.cutting.Cluster.{Cluster}
 use Rattle.tx_text.proofs.Table.{byte_code-ascii, eq_from_test}
 use Rattle.tx_text.proofs.Spreading.{by_places}
 
--- no table speaks of a plain byte
+-- the break class of a plain byte is Other
 abbrev is_other : GraphemeClusterBreak → Bool
 is_other value = grapheme_cluster_break_number value == grapheme_cluster_break_number Other
 
@@ -63,7 +63,7 @@ plain_other b h =
     ap (λ r. not r || is_other (grapheme_cluster_break b)) (sym (plain_range b h)) ∙ test in
     sym (grapheme_cluster_break_number_injective (grapheme_cluster_break b) Other (eq_from_test _ _ other))
 
--- plain bytes, one behind another
+-- each byte is plain
 abbrev pub ArePlain : List ℕ → Type 0
 ArePlain [] = Unit {0}
 ArePlain (b ∷ bs) = IsPlain b × ArePlain bs
@@ -133,7 +133,7 @@ plain_graphemes bs h =
         let k = h.0.high in
         ap₂ (λ x y. x ∷ y) (append-nil (encode_utf8 b) ∙ encode_ascii b (omega arith)) (spelled xs h.1)
 
--- 4. each stands where it is
+-- 4. each is one cell wide, at its own place
 plain_width : (b : ℕ) → IsPlain b → str_width false (chars (b ∷ [])) ≡ 1
 plain_width b h =
     ap (str_width false) (chars-IsAscii (b ∷ []) (plain_ascii (b ∷ []) (h, tt)))
@@ -179,7 +179,7 @@ plain_at front at (b ∷ bs) h e =
     ap (λ places. map (cluster_at (front ++ places)) (with_offsets at (map single (b ∷ bs))))
     (plain_spread at b bs h.0) ∙ ap₂ (λ x xs. x ∷ xs) head tail
 
--- plain bytes are clusters, each where it stands
+-- plain bytes are clusters, each at its own place
 pub plain_text : (bs : List ℕ) → ArePlain bs → clusters_of (items_of bs) ≡ plain_clusters 0 bs
 plain_text bs h =
     let itself : display_text (map byte bs) ≡ bs = plain_display bs h in

@@ -18,7 +18,7 @@ abbrev pub name_read : Bool → List ℕ → ℕ → ℕ → Option (List ℕ)
 name_read false bytes from at = None
 name_read true bytes from at = Some (slice_range bytes (from + 1) at)
 
--- the display_text text and its places, where so many bytes are read
+-- the display text and its places, as far as the bytes are read
 pub record ReadTo (bytes : List ℕ) (in_symbol : Bool) (from at : ℕ) (text : List ℕ) (places : List Stretch) : Type 0
   where
     pub text_so_far : text ++ display_text (items_behind (name_read in_symbol bytes from at) (drop at bytes)) ≡

@@ -1,4 +1,4 @@
--- The table of bytes is what the code's arrays say, by computing each of the 256 answers.
+-- The table of bytes agrees with the code's arrays. This is shown by computing each of the 256 values.
 use Rattle.std.proofs.Common.{◌≡◌, ℕ, zero, suc, ◌+◌, ◌-◌, ◌<◌, ◌≤◌, Bool, true, not, ◌&&◌, ◌||◌, ◌==◌, get_or, refl}
 use Rattle.std.proofs.Common.{sym, ap, ◌∙◌, inl, inr, arith}
 use Rattle.std.specs.Int.{is_in_range}

@@ -10,7 +10,7 @@ use Rattle.unicode_width.specs.Width.{str_width}
 use Rattle.tx_text.specs.Displays.{item_text, display_text}
 use Rattle.tx_text.specs.declared.cutting.Cluster.{Cluster}
 
--- the items that bytes spell, behind what has been read of a symbol's name, if one has begun
+-- the items that bytes spell, after what has been read of a symbol's name, if one has begun
 abbrev pub items_behind : Option (List ℕ) → List ℕ → List Item
 items_behind None [] = []
 items_behind (Some name) [] = []
@@ -22,7 +22,7 @@ items_behind (Some name) (b ∷ bs) =
 abbrev pub items_of : List ℕ → List Item
 items_of bytes = items_behind None bytes
 
--- Of items that begin at a byte of a text, where the one begins that holds a byte of their display text.
+-- The items begin at this byte of a text. Here the item begins that holds byte n of their display text.
 abbrev pub item_start : ℕ → List Item → ℕ → ℕ
 item_start from [] n = from
 item_start from (item ∷ items) n =
@@ -36,7 +36,7 @@ item_end from (item ∷ items) n =
     if nat_lt n (length (item_text item)) then from + length (item_bytes item)
     else item_end (from + length (item_bytes item)) items (n - length (item_text item))
 
--- One of the items holds a byte of their display text, and begins and ends at these bytes of the text.
+-- One of the items holds byte n of their display text. It begins and ends at these bytes of the text.
 pub record HoldsByte (items : List Item) (n start stop : ℕ) : Type 0 where
   pub before : List Item
   pub item : Item
@@ -47,9 +47,8 @@ pub record HoldsByte (items : List Item) (n start stop : ℕ) : Type 0 where
   pub not_before : length (display_text before) ≤ n
   pub not_after : n < length (display_text before) + length (item_text item)
 
--- A cluster by where it begins in the display text of items, and its characters: it stands for the text from the start
--- of
--- the item of its first byte to the end of the item of its last.
+-- A cluster of the display text of items, by where it begins there and its characters. It shows the text from the start
+-- of the item of its first byte to the end of the item of its last byte.
 abbrev pub cluster_of : List Item → ℕ × List ℕ → Cluster
 cluster_of items (n, glyphs) =
     record {

@@ -6,7 +6,7 @@ use Rattle.std.specs.Char.{digit_value}
 use Rattle.tx_tree.specs.Texts.{Item, byte, symbol}
 use Rattle.tx_text.specs.Tables.{byte_code, named_code}
 
--- the number that hexadecimal digits spell behind others that spell a value, or None where they aren't all digits
+-- the number that hexadecimal digits spell after others that spell a value, or None where they aren't all digits
 abbrev pub hex_behind : ℕ → List ℕ → Option ℕ
 hex_behind value [] = Some value
 hex_behind value (digit ∷ digits) =
@@ -27,7 +27,7 @@ abbrev pub numbered_code : List ℕ → Option ℕ
 numbered_code digits =
     if nat_le 1 (length digits) && nat_le (length digits) 6 then shown_code (hex_behind 0 digits) else None
 
--- the code point that a symbol shows as: that of its number behind a #, or that of its name
+-- the code point that a symbol shows as: that of its number after a #, or that of its name
 abbrev pub symbol_code : List ℕ → Option ℕ
 symbol_code [] = None
 symbol_code (b ∷ bs) = if b == 35 then numbered_code bs else named_code (b ∷ bs)

@@ -1,4 +1,4 @@
--- The bytes that a value of Glyphs keeps.
+-- The bytes that a value of Glyphs holds.
 use Rattle.std.specs.Prelude.{ℕ, ◌≤◌, List, take}
 use Rattle.tx_text.specs.declared.glyphs.Kept.{Kept}
 use Rattle.tx_text.specs.declared.glyphs.Kept.TheVariants.{Here, Shared}

@@ -32,11 +32,11 @@ cluster_at places (at, glyphs) =
 abbrev pub is_plain_byte : ℕ → Bool
 is_plain_byte b = is_in_range 32 126 b && not (b == 60)
 
--- the cluster of such a byte, which stands at a place
+-- the cluster of such a byte at a place
 abbrev pub plain_cluster : ℕ → ℕ → Cluster
 plain_cluster at b = record { glyphs = b ∷ []; cells = 1; start = at; len = 1 }
 
--- the clusters of such bytes, where the first stands at a place
+-- the clusters of such bytes, the first of them at a place
 abbrev pub plain_clusters : ℕ → List ℕ → List Cluster
 plain_clusters at [] = []
 plain_clusters at (b ∷ bs) = plain_cluster at b ∷ plain_clusters (at + 1) bs

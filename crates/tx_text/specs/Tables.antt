@@ -3,7 +3,7 @@ use Rattle.std.specs.Prelude.{ℕ, ◌+◌, ◌-◌, ◌&&◌, nat_le, nat_lt, L
 use Rattle.std.specs.Prelude.{None, if◌then◌else◌, codes}
 use Rattle.std.specs.Str.{bytes_eq}
 
--- The rows of the table of bytes: a first byte, and what it and those behind it show as.
+-- The rows of the table of bytes: a first byte, and what it and those after it show as.
 abbrev pub byte_rows : List (ℕ × List ℕ)
 byte_rows =
     (0, 0x60 ∷ 0xB4 ∷ 0x2C6 ∷ 0x2DC ∷ 0xA8 ∷ 0x2DD ∷ 0x2DA ∷ 0x2C7 ∷ 0x2D8 ∷ []) ∷
@@ -35,7 +35,7 @@ code_by ((first, row) ∷ rows) b =
 unfoldable pub byte_code : ℕ → ℕ
 byte_code b = code_by byte_rows b
 
--- names that show as a code point and the ones behind it
+-- names that show as a code point and the ones after it
 abbrev pub named_from : ℕ → List (List ℕ) → List (List ℕ × ℕ)
 named_from code [] = []
 named_from code (name ∷ names) = (name, code) ∷ named_from (code + 1) names

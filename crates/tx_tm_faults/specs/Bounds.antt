@@ -23,7 +23,7 @@ IsSmallCount n = n + 1 < 2 ^ 64
 abbrev pub most_of : Sums → ℕ
 most_of s = max s.count (max s.depth s.size)
 
--- of the tree of a line: its trees, the text after them as a leaf, and a node of both
+-- the bound for the tree of a line: its trees, the text after them as a leaf, and a node of both
 abbrev pub most_in_line : LineSums → ℕ
 most_in_line g = most_of g.done + g.length + min 1 g.done.count + 1
 
@@ -38,7 +38,7 @@ abbrev pub of_run : Option White → ℕ
 of_run None = 0
 of_run (Some w) = 1
 
--- of the tree of a block
+-- the bound for the tree of a block
 abbrev pub most_in_block : BlockSums → ℕ
 most_in_block b = most_of b.full + most_in_line b.now + of_run b.run + 1
 
@@ -47,28 +47,28 @@ abbrev pub of_place : TagPlace → ℕ
 of_place InHeader = 1
 of_place p = 0
 
--- of the tags, or of what they are as an ordinary block
+-- the bound for the tags, or for what they are as an ordinary block
 abbrev pub most_in_content : ContentSums → ℕ
 most_in_content (Argument p g) = most_in_line g + of_place p
 most_in_content (Block b) = most_in_block b
 most_in_content (Tags s b) = max (most_of s) (most_in_block b)
 
--- of the tag, as a part of what is before it
+-- the bound for a tag, as a part of what is before it
 abbrev pub most_in_open : OpenSums → ℕ
 most_in_open o = most_in_content o.before + most_of o.children + 2
 
--- of all open tags
+-- the bound for all open tags
 abbrev pub most_in_opens : List OpenSums → ℕ
 most_in_opens [] = 0
 most_in_opens (o ∷ os) = most_in_open o + most_in_opens os
 
--- of a symbol, or of raw data
+-- the bound for a symbol, or for raw data
 abbrev pub most_within : Within → ℕ
 most_within Parts = 0
 most_within (Symbol n) = n + 2
 most_within (Digits n) = n + 3
 
--- of the innermost content and the tags round it
+-- the bound for the innermost content and the tags round it
 abbrev pub most_at : ContentSums → List OpenSums → ℕ
 most_at here os = most_in_content here + most_in_opens os
 

@@ -59,7 +59,7 @@ child_before l ks t us ps vs =
     no_before_first (same_bytes l collection_label) (none (ks ++ t ∷ us)) (none vs) (has_no_items ps) _ _
     (some_child ks t us)
 
--- nor is one with a child after it
+-- a long tag with a child after its first block is no collection tag
 pub child_behind : (l : List ℕ) (ks : List WideTree) (ps : List ContentPart) (us : List WideTree) (t : WideTree)
     (vs : List WideTree)
     → long_tag l ks ps (us ++ t ∷ vs) ≡ tag false (node l (forest (ks ++ block ps ∷ (us ++ t ∷ vs))))

@@ -107,7 +107,7 @@ place_once bytes f g n m l k h i =
     kind_once (take n bytes) (get_or bytes n 0) n f g
     (front_goes_on (take n bytes) l.front.1.0 l.front.1.1.0 l.front.1.1.1) h (subst (λ j. IsKind bytes j g) e i)
 
--- of what sort it is
+-- the sort of a fault
 pub data Sort (bytes : List ℕ) (fault : ReadFault) : Type 0 where
   unfinished : (n : ℕ) → fault ≡ Unclosed n → IsTmFault bytes (Unclosed n) → Sort bytes fault
   past : (which : Which) (n : ℕ) → fault ≡ Limit which n → IsTmFault bytes (Limit which n) → Sort bytes fault

@@ -134,18 +134,18 @@ place_of (inline place g) = Some place
 place_of (blocks b) = None
 place_of (collecting x) = None
 
--- of an argument
+-- the tree of an argument
 abbrev pub tree_as_argument : Content → WideTree
 tree_as_argument (inline place g) = grown g
 tree_as_argument _ = leaf []
 
--- of a block
+-- the tree of a block
 abbrev pub tree_as_block : Content → WideTree
 tree_as_block (inline place g) = leaf []
 tree_as_block (blocks b) = tree_of_block b
 tree_as_block (collecting x) = tree_of_block (as_block x)
 
--- of a file
+-- the tree of a file
 abbrev pub file_tree : Content → Option WideTree
 file_tree (inline place g) = None
 file_tree (blocks b) = Some (tree_of_block b)

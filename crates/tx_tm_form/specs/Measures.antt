@@ -139,12 +139,12 @@ abbrev pub tag_place : ContentSums → Option TagPlace
 tag_place (Argument p g) = Some p
 tag_place _ = None
 
--- of an argument
+-- the numbers of an argument
 abbrev pub argument_sums : ContentSums → Sums
 argument_sums (Argument p g) = line_sums g
 argument_sums _ = leaf_sums 0
 
--- of a block
+-- the numbers of a block
 abbrev pub body_sums : ContentSums → Sums
 body_sums (Argument p g) = leaf_sums 0
 body_sums (Block b) = block_sums b

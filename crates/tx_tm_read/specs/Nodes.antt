@@ -21,6 +21,6 @@ state_nodes (naming name here fs) = content_nodes here + opens_nodes here fs
 state_nodes (counting digits here fs) = content_nodes here + opens_nodes here fs
 state_nodes failed = 0
 
--- of a tag, with all round it
+-- the nodes of a tag, with all round it
 abbrev pub open_nodes : Open → List Open → ℕ
 open_nodes f fs = nodes_in f.children + content_nodes f.before + opens_nodes f.before fs

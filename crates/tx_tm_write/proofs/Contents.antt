@@ -167,7 +167,7 @@ items_singly before behind (symbol name ∷ items) bytes rest =
     items_singly true behind items (bytes ++ symbol_bytes name) rest
     ∙ ap (λ z. singly z rest) (append_assoc bytes (symbol_bytes name) (flat_map item_bytes items))
 
--- of children that are apart, after no text and after a text
+-- children that are apart are given back, after no text and after a text
 mutual
   side_singly : (ts : Forest) (before : Bool) (h : AreWellFormed ts) → are_apart false ts ≡ true
       → singly [] (parts_side before ts h) ≡ trees ts

@@ -181,7 +181,7 @@ block_behind q qs rest h k e =
     ∙ sym (append_assoc q (behind_breaks qs) (with_runs rest)))
     ∙ left q qs (with_runs rest) h k e
 
--- and a run before them
+-- white after the paragraphs, and a run before them
 pub block_between : (w : White) (q : List ContentPart) (qs : List (List ContentPart)) (rest : List ContentPart)
     → IsTight q
     → AllByRecursion IsTight qs → to_last (with_runs rest) ≡ []

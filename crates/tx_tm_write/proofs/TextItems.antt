@@ -44,7 +44,7 @@ marked_escape : (b : ℕ) → is_item_byte b ≡ true → is_marked b ≡ true �
 unfolding escape_of
 marked_escape b h m = grind arith
 
--- of a control byte that is an item, the byte 64 more
+-- the escape of a control byte that is an item: the byte 64 more
 control_low : (b : ℕ) → is_control b ≡ true → b < 32
 control_low b c = grind arith
 

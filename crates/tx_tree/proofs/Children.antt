@@ -1,4 +1,4 @@
--- A forest is its list of trees, and what a node knows of its children.
+-- A forest is its list of trees, and what is known of a node and its children.
 use Rattle.std.proofs.Common.{◌≡◌, ℕ, ◌+◌, ◌*◌, ◌<◌, ◌≤◌, max, List, [], ◌∷◌, ◌++◌, length, take, get_or, length-append}
 use Rattle.std.proofs.Common.{ap, refl, sym, ◌∙◌, arith}
 use Rattle.std.proofs.lemmas.List.{take_more, take_all, get_or_default}
@@ -22,7 +22,7 @@ pub same_children : (l m : List ℕ) (ss ts : List WideTree) → node l (forest 
 same_children l m ss ts e = let same : forest ss ≡ forest ts =
     cc in sym (trees_forest ss) ∙ ap trees same ∙ trees_forest ts
 
--- unequal children stand in unequal nodes
+-- nodes with unequal children are unequal
 pub differ_at : (l m : List ℕ) (ss ts : List WideTree) (i : ℕ) (s t : WideTree) → i < length ss → i < length ts
     → s ≡ get_or ss i s → t ≡ get_or ts i t → (s ≡ t → ⊥)
     → node l (forest ss) ≡ node m (forest ts) → ⊥
@@ -105,7 +105,7 @@ pub counted_next : (items : List WideTree) (i : ℕ) (x : WideTree) (size depth 
 counted_next items i x size depth size' depth' h f w lt is es ed =
     rw (take_more items i x lt, ← is, es, ed) (counted_push size depth (take i items) x h f w)
 
--- what a node knows of itself, when it has counted all its children
+-- what is known of a node when all its children have been counted
 pub record IsSound (size depth : ℕ) (t : WideTree) : Type 0 where
   pub sized : size ≡ size_of t
   pub deep : depth ≡ depth_of t

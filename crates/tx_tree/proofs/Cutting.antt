@@ -18,7 +18,7 @@ pub cut_within : (bytes : List ℕ) (n : ℕ) → IsCut bytes n → n ≤ length
 cut_within bytes n h =
     omega (arith, h.5, ap length h.4, length-append (flat_map item_bytes h.0) (flat_map item_bytes h.1))
 
--- behind a text that begins a text stands a text
+-- where a text begins with a text, the rest is a text
 pub text_rest : (front rest : List ℕ) → IsText (front ++ rest) → IsText front → IsText rest
 text_rest front rest whole h =
     between_text rest (sym (text_runs front rest h) ∙ ap (text_run (Some Between)) (sym (append-nil (front ++ rest)))

@@ -14,7 +14,7 @@ use Rattle.tx_tree.proofs.Scanning.{all_snoc, text_snoc, TookAll, Took, took, be
 abbrev pub AreBytes : List ℕ → Type 0
 AreBytes = AllByRecursion (λ b. b < 256)
 
--- what P can be continued to by bytes
+-- some bytes continue the front to what P is true of
 abbrev pub GoesOn : (List ℕ → Type 0) → List ℕ → Type 0
 GoesOn P front = (bytes : List ℕ) × AreBytes bytes × P (front ++ bytes)
 

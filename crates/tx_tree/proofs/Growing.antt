@@ -9,7 +9,7 @@ use Rattle.tx_tree.specs.declared.texts.TextPlace.TheVariants.{Between}
 use Rattle.tx_tree.specs.TextScan.{text_step, text_run, begins_text, takes_byte, takes_all}
 use Rattle.tx_tree.proofs.Scanning.{takes_more, takes_yes}
 
--- behind the first n of these bytes
+-- the place after the first n of these bytes
 pub record IsReached (read bytes : List ℕ) (n : ℕ) (place : TextPlace) : Type 0 where
   pub run : text_run (Some Between) (read ++ take n bytes) ≡ Some place
   pub taken : takes_all read (take n bytes) ≡ true

@@ -67,7 +67,7 @@ label_stops bytes i lt h short bad = (
     whole [] = refl
     whole (b ∷ x) = ap (λ y. b ∷ y) (whole x)
 
--- no bytes begin a label, and are none
+-- the empty byte string begins a label, and is none
 pub label_empty : (bytes : List ℕ) → length bytes ≡ 0 → IsLongestFront IsLabel bytes 0 × (IsLabel bytes → ⊥)
 label_empty bytes e = (
   record { front = (omega arith, begins_label [] tt (omega arith)); longest = λ m f. omega (arith, f.0) },

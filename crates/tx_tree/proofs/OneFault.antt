@@ -1,6 +1,5 @@
--- Bytes have at most one fault, and none where they spell a tree within the limits: of any syntax that spells one tree
--- at most, and
--- whose table gives one fault at most.
+-- Bytes have at most one fault, and none where they spell a tree within the limits. This holds of any syntax that
+-- spells at most one tree and whose table gives at most one fault.
 use Rattle.std.proofs.Common.{◌≡◌, ℕ, ◌<◌, ◌≤◌, List, [], length, take, refl, sym, ap, subst, ◌∙◌, arith, ◌⊎◌, inl, inr}
 use Rattle.std.proofs.Common.{⊎_elim}
 use Rattle.std.proofs.lemmas.List.{append-nil, take_all}
@@ -100,7 +99,7 @@ module _ (Spells : List ℕ → WideTree → Type 0) (IsKind : List ℕ → ℕ 
     ),
   )
 
-  -- all bytes are no front where the byte behind the longest one is a fault
+  -- where the byte after the longest front is a fault, all the bytes are no front
   stopped_before : (bytes : List ℕ) (f : ReadFault) → IsStopped bytes f
       → IsFront (SpellsSome Spells) bytes (length bytes) → ⊥
   stopped_before bytes f h k = absurd (omega (arith, h.2, h.1.longest (length bytes) k))

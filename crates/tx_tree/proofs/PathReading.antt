@@ -58,7 +58,7 @@ number_run finished digits rest n h =
     (let e : 0 + length digits ≡ length digits = omega arith in e)
     ∙ ap (λ v. path_run (Some (reading finished (length digits) v)) rest) (sym h.value)
 
--- a path ends behind a number, or behind the / of the root
+-- a path ends after a number, or after the / of the root
 abbrev IsEnd : Option PathState → Type 0
 IsEnd None = ⊥
 IsEnd (Some (start finished)) = ⊥
@@ -276,7 +276,7 @@ pub spelled_numbers : (finished bytes : List ℕ) (n : ℕ) → AreNumbers bytes
 spelled_numbers [] bytes n h few = (h, omega arith)
 spelled_numbers (m ∷ finished) bytes n h few = (h, omega (arith, length-append finished (n ∷ [])))
 
--- behind a digit, the bytes spell the path
+-- after a digit, the bytes spell the path
 pub read_path : (bytes finished : List ℕ) (k v : ℕ) → path_run (Some (start [])) bytes ≡ Some (reading finished k v)
     → 1 ≤ k → SpellsPath bytes (finished ++ v ∷ [])
 read_path bytes finished k v e some =
@@ -289,7 +289,7 @@ no_digits : (digits : List ℕ) → length digits ≡ 0 → digits ≡ []
 no_digits [] e = refl
 no_digits (b ∷ digits) e = absurd (omega arith)
 
--- behind the first /, the bytes spell the root
+-- after the first /, the bytes spell the root
 pub read_root : (bytes : List ℕ) (v : ℕ) → path_run (Some (start [])) bytes ≡ Some (reading [] 0 v)
     → SpellsPath bytes []
 read_root bytes v e =

@@ -56,7 +56,7 @@ items_run (i ∷ items) rest h =
     ap (λ x. text_run (Some Between) x) (append_assoc (item_bytes i) (flat_map item_bytes items) rest)
     ∙ item_run i (flat_map item_bytes items ++ rest) h.0 ∙ items_run items rest h.1
 
--- behind a text the reading stands between items
+-- after a text the reading is between items
 pub text_runs : (bytes rest : List ℕ) → IsText bytes → text_run (Some Between) (bytes ++ rest) ≡ text_run (Some Between)
     rest
 text_runs bytes rest h = ap (λ x. text_run (Some Between) (x ++ rest)) h.2 ∙ items_run h.0 rest h.1

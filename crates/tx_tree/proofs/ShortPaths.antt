@@ -15,7 +15,7 @@ step_short : (t s : WideTree) (i : ℕ) (path : List ℕ) (o : Option WideTree) 
 step_short t s i path None h on e = absurd cc
 step_short t s i path (Some u) h on e = omega (arith, on u e, child_shallower t u i h)
 
--- it is no longer than the tree is deep
+-- a path that leads has fewer numbers than the tree is deep
 pub path_short : (t s : WideTree) (path : List ℕ) → subtree t path ≡ Some s → length path + 1 ≤ depth_of t
 path_short t s [] e = omega (arith, some_depth t)
 path_short t s (i ∷ path) e = step_short t s i path (slice_get (children_of t) i) refl (λ u h. path_short u s path h) e

@@ -1,4 +1,4 @@
--- Bytes have at most one fault as a text, none where they are one within the limit, and else one.
+-- Bytes have at most one fault as a text: none where they are a text within the limit, and else one.
 use Rattle.std.proofs.Common.{◌≡◌, ℕ, zero, suc, ◌+◌, ◌<◌, ◌≤◌, true, List, [], ◌++◌, length, take, get_or, Option}
 use Rattle.std.proofs.Common.{Some, None, refl, sym, ap, subst, ◌∙◌, arith, ◌⊎◌, inl, inr, ⊎_elim}
 use Rattle.std.specs.Prelude.{slice_get}
@@ -84,7 +84,7 @@ text_or_fault bytes =
     (λ (short : length bytes ≤ 1048575). text_or_from bytes (length bytes) 0 Between (omega arith) short refl)
     (cases_lt 1048575 (length bytes))
 
--- ---- what stands at a fault
+-- ---- what is at a fault
 
 no_item : (b : ℕ) → text_step Between b ≡ None → begins_no_item b ≡ true
 unfolding text_step

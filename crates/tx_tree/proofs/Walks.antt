@@ -36,7 +36,7 @@ get_or_le_deepest nil i d h = absurd (omega arith)
 get_or_le_deepest (cons u ts) zero d h = omega arith
 get_or_le_deepest (cons u ts) (suc i) d h = omega (arith, get_or_le_deepest ts i d (omega arith))
 
--- the same of the item of a loop over the children
+-- the item of a loop over the children is less deep than their parent
 pub item_shallower : (p x : WideTree) (i : ℕ) → i < length (children_of p) → x ≡ get_or (children_of p) i x
     → depth_of x < depth_of p
 item_shallower (leaf text) x i h e = absurd (omega arith)

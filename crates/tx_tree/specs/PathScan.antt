@@ -6,7 +6,8 @@ use Rattle.tx_tree.specs.declared.paths.PathPlace.{PathPlace}
 use Rattle.tx_tree.specs.declared.paths.PathPlace.TheVariants.{Start, Number}
 use Rattle.tx_tree.specs.PathSpelling.{is_digit}
 
--- before all bytes, or behind finished numbers, a /, and so many digits of a number; before all bytes none is finished
+-- Where the reading is: before all bytes, where no number is finished, or after finished numbers, a / and so many
+-- digits of the next number.
 pub data PathState : Type 0 where
   start : (finished : List ℕ) → PathState
   reading : (finished : List ℕ) → (digits : ℕ) → (value : ℕ) → PathState
@@ -23,7 +24,7 @@ ends_number finished digits = nat_lt 0 digits && nat_lt (length finished + 1) MO
 abbrev pub takes_digit : ℕ → ℕ → ℕ → Bool
 takes_digit digits value b = is_digit b && (nat_lt digits MOST_DIGITS && nat_le (value * 10 + (b - 48)) MOST_NUMBER)
 
--- behind one byte more, where a path can go on with it
+-- the state after one more byte, if a path can go on with it
 unfoldable pub path_step : PathState → ℕ → Option PathState
 path_step (start finished) b = if b == 47 then Some (reading finished 0 0) else None
 path_step (reading finished digits value) b =
@@ -31,7 +32,7 @@ path_step (reading finished digits value) b =
     then (if ends_number finished digits then Some (reading (finished ++ value ∷ []) 0 0) else None)
     else (if takes_digit digits value b then Some (reading finished (digits + 1) (value * 10 + (b - 48))) else None)
 
--- behind bytes more
+-- the state after more bytes
 abbrev pub path_run : Option PathState → List ℕ → Option PathState
 path_run None bytes = None
 path_run (Some s) [] = Some s

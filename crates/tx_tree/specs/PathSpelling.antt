@@ -10,7 +10,7 @@ use Rattle.tx_tree.specs.declared.faults.PathFault.TheVariants.{BadPath, Memory}
 abbrev pub is_digit : ℕ → Bool
 is_digit b = nat_le 48 b && nat_le b 57
 
--- the number that digits write behind those of n
+-- the number that the digits write after those of n
 abbrev pub number_after : ℕ → List ℕ → ℕ
 number_after n [] = n
 number_after n (b ∷ digits) = number_after (n * 10 + (b - 48)) digits

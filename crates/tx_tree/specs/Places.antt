@@ -6,12 +6,12 @@ use Rattle.tx_tree.specs.Paths.{subtree, leading}
 use Rattle.tx_tree.specs.declared.faults.PlaceFault.{PlaceFault}
 use Rattle.tx_tree.specs.declared.faults.PlaceFault.TheVariants.{NoPath, BadPlace, CutsSymbol}
 
--- the offset behind a tree: behind its text, or behind the node
+-- the offset after a tree: after its text, or after the node
 abbrev pub end_of : WideTree → ℕ
 end_of (leaf text) = length text
 end_of (node label ts) = 1
 
--- In a leaf an offset is a cut. At a node it is 0, before the node, or 1, behind it.
+-- In a leaf an offset is a cut. At a node it is 0, before the node, or 1, after it.
 abbrev pub IsOffset : WideTree → ℕ → Type 0
 IsOffset (leaf text) o = IsCut text o
 IsOffset (node label ts) o = o ≤ 1

@@ -1,5 +1,5 @@
--- Why bytes spell no tree within the limits, in any syntax: `Spells` says which bytes spell which wide tree, and
--- `IsKind` is the syntax's own table, by what stands before the byte at a place.
+-- Why bytes spell no tree within the limits, in any syntax. `Spells` says which bytes spell which wide tree. `IsKind`
+-- is the syntax's own table, by what is before the byte at a place.
 use Rattle.std.specs.Prelude.{◌≡◌, ℕ, ◌≤◌, ◌<◌, ◌⊎◌, List, length}
 use Rattle.tx_base.specs.Fronts.{IsFront, IsLongestFront}
 use Rattle.tx_tree.specs.declared.TheConstants.{MOST_TEXT, MOST_ARITY, MOST_DEPTH, MOST_SIZE}
@@ -22,7 +22,7 @@ IsPassed t Size n =
 abbrev pub SpellsSome : (List ℕ → WideTree → Type 0) → List ℕ → Type 0
 SpellsSome Spells bytes = (t : WideTree) × Spells bytes t
 
--- All the bytes are a front and spell no tree, or they spell a tree past a limit, or the byte behind the longest front
+-- All the bytes are a front and spell no tree, or they spell a tree past a limit, or the byte after the longest front
 -- decides.
 abbrev pub IsFault : (List ℕ → WideTree → Type 0) → (List ℕ → ℕ → ReadFault → Type 0) → List ℕ → ReadFault → Type 0
 IsFault Spells IsKind bytes (Unclosed n) = (n ≡ length bytes) × IsFront (SpellsSome Spells) bytes n
@@ -31,6 +31,6 @@ IsFault Spells IsKind bytes (Limit which number) = (t : WideTree) × Spells byte
 IsFault Spells IsKind bytes fault = (n : ℕ) × IsLongestFront (SpellsSome Spells) bytes n × (n < length bytes)
     × IsKind bytes n fault
 
--- a row of a table: where this holds, that is so, and else what the rows below say
+-- a row of a table: where Holds is true, That is true, and else what the rows below say
 abbrev pub Row : Type 0 → Type 0 → Type 0 → Type 0
 Row Holds That Below = (Holds × That) ⊎ ((Holds → ⊥) × Below)

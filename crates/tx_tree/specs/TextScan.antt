@@ -8,14 +8,14 @@ use Rattle.tx_tree.specs.declared.texts.TextFault.{TextFault}
 use Rattle.tx_tree.specs.declared.texts.TextFault.TheVariants.{BadByte, BadSymbol}
 use Rattle.tx_tree.specs.Texts.{is_item_byte, is_name_byte}
 
--- behind one byte more, where a text can go on with it
+-- the place after one more byte, if a text can go on with it
 unfoldable pub text_step : TextPlace → ℕ → Option TextPlace
 text_step Between b = if b == 60 then Some (InSymbol 0) else (if is_item_byte b then Some Between else None)
 text_step (InSymbol n) b =
     if b == 62 then (if n == 0 then None else Some Between)
     else (if is_name_byte b && nat_lt n MOST_NAME then Some (InSymbol (n + 1)) else None)
 
--- behind bytes more
+-- the place after more bytes
 abbrev pub text_run : Option TextPlace → List ℕ → Option TextPlace
 text_run None bytes = None
 text_run (Some p) [] = Some p
@@ -43,7 +43,7 @@ fault_at (InSymbol n) i = BadSymbol i
 abbrev pub takes_byte : List ℕ → ℕ → Bool
 takes_byte bytes b = nat_lt (length bytes) MOST_TEXT && begins_text (bytes ++ b ∷ [])
 
--- each of these bytes in its turn
+-- each of these bytes is taken, in order
 abbrev pub takes_all : List ℕ → List ℕ → Bool
 takes_all bytes [] = true
 takes_all bytes (b ∷ more) = takes_byte bytes b && takes_all (bytes ++ b ∷ []) more

@@ -34,7 +34,7 @@ abbrev pub IsItem : Item → Type 0
 IsItem (byte b) = is_item_byte b ≡ true
 IsItem (symbol name) = IsName name
 
--- an item as it stands in the bytes of a text
+-- the bytes of an item in a text
 abbrev pub item_bytes : Item → List ℕ
 item_bytes (byte b) = b ∷ []
 item_bytes (symbol name) = 60 ∷ (name ++ 62 ∷ [])
@@ -50,8 +50,8 @@ IsCut bytes n =
     × (bytes ≡ flat_map item_bytes before ++ flat_map item_bytes after)
     × (n ≡ length (flat_map item_bytes before))
 
--- why bytes are no text within the limit: they are too many, or so many of them and no more begin a text, and behind
--- these stands a byte that is no item, or a symbol is unfinished
+-- Why bytes are no text within the limit: there are too many, or so many of them and no more begin a text. After these
+-- comes a byte that is no item, or a symbol is unfinished.
 abbrev pub IsTextFault : List ℕ → TextFault → Type 0
 IsTextFault bytes (TooLong n) = (MOST_TEXT < length bytes) × (n ≡ length bytes)
 IsTextFault bytes (BadByte n) = (length bytes ≤ MOST_TEXT) × IsLongestFront IsText bytes n × (n < length bytes)

@@ -40,7 +40,7 @@ abbrev pub label_of : WideTree → Option (List ℕ)
 label_of (leaf text) = None
 label_of (node label ts) = Some label
 
--- 1 and the bytes of the texts, and 1 for each node
+-- the size: 1 for each node, and for each leaf 1 and the bytes of its text
 abbrev mutual
   pub size_of : WideTree → ℕ
   size_of (leaf text) = 1 + length text

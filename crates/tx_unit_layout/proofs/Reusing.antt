@@ -80,7 +80,7 @@ pub at_some : (path : Option (List ℕ)) (a : Attrs) (v : WideValue) → is_some
 at_some None a v h = cc
 at_some (Some p) a v h = refl
 
--- those of all paragraphs of the unit
+-- the items that are laid out anew are at most those of all paragraphs of the unit
 pub anew_within : (ls : List LaidAt) (fs : List Bool) (s : PartsShown) (path : Option (List ℕ)) (a : Attrs)
     (v : WideValue) (n : ℕ) → n ≡ items_by_parts ls fs s.each → is_some path ≡ true
     → shown_paragraphs a v ≡ paragraphs_by_parts s → n ≤ items_in (paragraphs_at path a v)

@@ -16,7 +16,7 @@ pub record WideStretch : Type 0 where
   pub paragraphs : List Paragraph
   pub lines : List Line
 
--- that of a part
+-- the stretch of a part
 abbrev pub part_stretch : PlacedPart → WideStretch
 part_stretch p = record { part = p.path; paragraphs = p.laid.value.paragraphs.items; lines = p.laid.value.lines }
 
@@ -34,7 +34,7 @@ stretch_paragraphs s = map (paragraph_under s.part) s.paragraphs
 abbrev pub stretch_lines : WideStretch → List Line
 stretch_lines s = map (line_under s.part) s.lines
 
--- of each line of a unit, the path from which its places are given
+-- for each line of a unit, the path from which its places are given
 abbrev pub line_parts : WideStretch → List (List ℕ)
 line_parts s = map (λ line. s.part) s.lines
 

@@ -27,7 +27,7 @@ same_place p xs i x y e same =
     ap (λ k. cond (nat_lt k (length (set xs i y))) (Some k) None) at
     ∙ ap (λ n. cond (nat_lt (position_or_len p xs) n) (Some (position_or_len p xs)) None) (length-set xs i y)
 
--- and one that neither passes finds the same element
+-- a test that neither element passes finds the same element
 pub same_found : {X : Type 0} (p : X → Bool) (xs : List X) (i : ℕ) (x y : X) → slice_get xs i ≡ Some x
     → p x ≡ false → p y ≡ false → find p (set xs i y) ≡ find p xs
 same_found p xs i x y e f g = find_past p xs i y x (ap p (get_or_from_slice_get xs i x x e) ∙ f) g

@@ -24,7 +24,7 @@ module _ {X Y : Type 0} (f : X → Y) where
       ∙ ap (λ ws. start ++ ws) (sym (map-append f (take i xs) (x ∷ []))
       ∙ ap (map f) (ap (λ y. take i xs ++ y ∷ []) is ∙ sym (take_more xs i x lt)))
 
--- the same with the paths of children
+-- one element more, with the paths of children
 pub numbered_next : (path : List ℕ) (xs : List WideTree) (i : ℕ) (x : WideTree) (start us vs : List DocUnit)
     → i < length xs → x ≡ get_or xs i x
     → us ≡ start ++ map (λ p. body_unit p.1 (path ++ p.0 ∷ [])) (enumerate_from 0 (take i xs))

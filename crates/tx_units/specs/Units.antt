@@ -80,7 +80,7 @@ front_units document styles = base_units ++ (style_units document styles ++ init
 abbrev pub units : List Buffer → List DocUnit
 units buffers = front_units (document_of buffers) (drop 1 buffers) ++ body_units (document_of buffers)
 
--- those of the buffers over others than the base style's
+-- the units of the buffers, where these are the units of the base style
 abbrev pub units_over : List DocUnit → List Buffer → List DocUnit
 units_over base buffers =
     (base ++ (style_units (document_of buffers) (drop 1 buffers) ++ initial_units (document_of buffers)))
@@ -112,11 +112,11 @@ made_as Body t = 0
 abbrev pub nodes_made : List DocUnit → ℕ
 nodes_made us = sum_by (λ u. made_as u.kind u.tagged.tree) us
 
--- those of all units of the buffers
+-- how many nodes of the units of the buffers are in no buffer
 abbrev pub made : List Buffer → ℕ
 made buffers = nodes_made (units buffers)
 
--- those of all units but the base style's
+-- how many nodes of the units are in no buffer, the base style's aside
 abbrev pub made_over : List Buffer → ℕ
 made_over buffers =
     nodes_made (style_units (document_of buffers) (drop 1 buffers)) + nodes_made (initial_units (document_of buffers))

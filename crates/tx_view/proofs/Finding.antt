@@ -59,11 +59,11 @@ marks_within b ps = marks_of (flat_map (λ p. p.items) (map (paragraph_under b) 
 abbrev pub marks_in : List WideStretch → List Mark
 marks_in ss = marks_of (items_on (flat_map stretch_lines ss))
 
--- those of paragraphs, also of such that have no line
+-- the marks of the paragraphs, including those without a line
 abbrev pub all_marks_in : List WideStretch → List Mark
 all_marks_in ss = marks_of (flat_map (λ p. p.items) (flat_map stretch_paragraphs ss))
 
--- those of two lists are those of one and then of the other
+-- the marks of two lists are those of the first and then of the second
 abbrev pub AreJoined : {X : Type 0} → (List X → List Mark) → Type 0
 AreJoined {X} M = (xs ys : List X) → M (xs ++ ys) ≡ M xs ++ M ys
 
@@ -103,7 +103,7 @@ all_join ss ts =
     ap (λ ps. marks_of (flat_map (λ p. p.items) ps)) (flat_map-append stretch_paragraphs ss ts)
     ∙ paragraphs_join (flat_map stretch_paragraphs ss) (flat_map stretch_paragraphs ts)
 
--- those of one
+-- the marks of one line
 pub one_line : (b : List ℕ) (l : Line) (xs : List Item) → xs ≡ l.items → marks_under b xs ≡ marks_on b (l ∷ [])
 one_line b l xs e = ap (marks_under b) e ∙ ap marks_of (sym (append-nil (map (item_under b) l.items)))
 

@@ -41,7 +41,7 @@ abbrev pub all_now_by_number : List (List LaidAt) → List Move → ℕ → List
 all_now_by_number lss moves j [] = []
 all_now_by_number lss moves j (s ∷ ss) = now_by_number lss moves j s ∷ all_now_by_number lss moves (j + 1) ss
 
--- of each unit, and last of the parts that are in none
+-- the layout of the parts of each unit, and last of those that are in none
 abbrev pub laid_with : List (List LaidAt) → List LaidAt → List (List LaidAt)
 laid_with lss ls = lss ++ ls ∷ []
 

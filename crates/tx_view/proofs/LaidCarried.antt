@@ -183,7 +183,7 @@ module _ (width buffer : ℕ) (ms : List Mod) (t : WideTree) (old : Kept) (pss :
         ∙ arrive_same buffer ms t us pss lss ks ls vs many alike (length vs),
   )
 
-  -- and each part that is cached then is laid out, or none is
+  -- each part that is cached then is laid out, or none is
   pub alike_then : (ts : List (Option ℕ))
       → AreAllOrNoneLaid (CarryParts pss (PartMoves buffer ms t us pss ks vs) ts)
       (all_laid_now lss (laid_moves buffer ms t us lss ls vs) 0 ts)

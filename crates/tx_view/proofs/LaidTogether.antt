@@ -197,7 +197,7 @@ goes_with all m x e = by (option_and_then (λ ls. slice_get ls m.number) (slice_
           path = ap (λ (y : LaidMove). y.laid.path) same;
         }
 
--- of each that moves something is laid out
+-- each part that moves is laid out
 each_goes : (all : List (List LaidAt)) (ms : List Move) (xs : List LaidMove) → GoTogether all ms xs
     → all_by_number all ms ≡ true
 each_goes all [] [] e = refl
@@ -221,7 +221,7 @@ they_come all j (m ∷ ms) (x ∷ xs) e =
     ∙ ap (λ o. cons_option (if x.to == j then o else None) (filter_map (in_unit_by_number all j) ms)) one.laid
     ∙ ap (cons_option (laid_in_unit j x)) (they_come all j ms xs both.1)
 
--- and has the paths of the cached parts that move there
+-- what arrives has the paths of the cached parts that move there
 paths_come : (all : List (List LaidAt)) (j : ℕ) (ms : List Move) (xs : List LaidMove) → GoTogether all ms xs
     → part_paths (arrived ms j) ≡ laid_at_paths (laid_arrived xs j)
 paths_come all j [] [] e = refl

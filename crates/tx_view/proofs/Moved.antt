@@ -130,7 +130,7 @@ giving_ends ss was old before now j g past =
 
 -- ---- a unit has the tree of the old one that it is
 
--- and a path where that has one
+-- a unit has the tree of the old unit that it is, and a path where that has one
 abbrev pub Same : List DocUnit → Option ℕ → DocUnit → Type 0
 Same us s v = (i : ℕ) (u : DocUnit) → s ≡ Some i → slice_get us i ≡ Some u
     → (v.tagged.tree ≡ u.tagged.tree) × (is_some v.path ≡ is_some u.path)

@@ -36,7 +36,7 @@ none_laid (x ∷ xs) (suc i) = by (none_laid xs i)
     by (inl e) = inl e
     by (inr le) = inr (omega (arith, le))
 
--- of no part anything is
+-- no part of these is laid out
 abbrev pub NoParts : List Shown → Type 0
 NoParts xs = AllByRecursion (λ (ls : List LaidAt). ls ≡ []) (laid_parts_in xs)
 

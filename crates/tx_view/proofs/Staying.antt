@@ -304,7 +304,7 @@ stay_attributes ps i k all (y ∷ ys) (x ∷ xs) from stay =
     ∙ ap (λ as_laid. had all (if k == i then None else Some k) ∷ as_laid)
     (stay_attributes ps i (k + 1) all ys xs (λ n m f. from (suc n) m (omega (arith, f))) stay.1)
 
--- of what parts are laid out
+-- the parts that are laid out afterwards are those that are left
 stay_ats : (width i k j : ℕ) (ms : List Mod) (t : WideTree) (ps : PartPlaces) (es : Kept) (pss : List KeptParts)
     (ys xs : List Shown) → i ≡ k + j → AreLaid width es pss ys → StayBut ps i k ys xs
     → ((y : Shown) → slice_get ys j ≡ Some y → AreLeft ms t ps y)

@@ -67,7 +67,7 @@ pub item_stops : (path b : List ℕ) (x : Item) → stops_at path (mark_of (item
     ≡ stops_on path (marks_under b (x ∷ []))
 item_stops path b x = one_stops path (mark_of (item_under b x))
 
--- those of one stretch more
+-- the stops of one stretch more
 pub stretch_added : (path : List ℕ) (ss : List WideStretch) (i : ℕ) (s : WideStretch) (old now new : List Place)
     → slice_get ss i ≡ Some s → now ≡ old ++ stops_on path (all_marks_in (take i ss))
     → new ≡ now ++ stops_on path (marks_within s.part s.paragraphs)

@@ -27,7 +27,7 @@ is_relaid m e ks laid = not (unit_stays m e ks) || not (is_before laid (attribut
 abbrev pub items_relaid : Moment → Entry → KeptParts → Option Attrs → List LaidAt → ℕ
 items_relaid m e ks laid ls = if is_relaid m e ks laid then items_at m e.unit (part_flags m e.unit ks) ls else 0
 
--- those of all units, from a moment on
+-- the items that are laid out anew of all units, from a moment on
 abbrev pub items_relaid_from : Moment → Kept → List KeptParts → List (Option Attrs) → List (List LaidAt) → ℕ
 items_relaid_from m [] pss laid lss = 0
 items_relaid_from m (e ∷ es) [] laid lss = 0

@@ -28,7 +28,7 @@ exchanged_from ms t i [] = None
 exchanged_from ms t i (u ∷ us) =
     if is_changed ms u then (if stays_alone t u then Some i else None) else exchanged_from ms t (i + 1) us
 
--- those of another buffer are inside none
+-- modifications of another buffer are inside no unit
 abbrev pub exchanged_in : ℕ → List Mod → WideTree → List DocUnit → Option ℕ
 exchanged_in zero ms t us = exchanged_from ms t 0 us
 exchanged_in (suc buffer) ms t us = None

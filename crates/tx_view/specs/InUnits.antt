@@ -18,7 +18,7 @@ lines_at x k = option_map_or stretch_lines (slice_get (stretches x) k) []
 abbrev pub lines_above : Shown → ℕ → ℕ → List Line
 lines_above x k i = flat_map stretch_lines (take k (stretches x)) ++ take i (lines_at x k)
 
--- and those below it
+-- the lines of the unit below line i of the stretch of number k
 abbrev pub lines_below : Shown → ℕ → ℕ → List Line
 lines_below x k i = drop (i + 1) (lines_at x k) ++ flat_map stretch_lines (drop (k + 1) (stretches x))
 

@@ -223,7 +223,7 @@ taking_shown x (Some y) = record y { path = x.path }
 abbrev pub source_shown : List Shown → Option ℕ → Option Shown
 source_shown old s = option_and_then (λ i. slice_get old i) s
 
--- of each new unit what was shown of the old one that it is
+-- for each new unit, what was shown of the old one that it is
 abbrev pub moved : List (Option ℕ) → List Shown → List Shown → List Shown
 moved [] old xs = xs
 moved (s ∷ ss) old [] = []

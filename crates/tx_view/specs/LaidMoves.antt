@@ -35,7 +35,7 @@ laid_moves_below ms t vs p [] = []
 laid_moves_below ms t vs p (l ∷ ls) =
     cons_option (laid_move_from ms t vs (p ++ l.path) l) (laid_moves_below ms t vs p ls)
 
--- those of the parts of the old unit, if no new one is where it is carried
+-- the moves of the layout of the parts of the old unit, if no new one is where it is carried
 abbrev pub laid_unit_moves : List Mod → WideTree → List DocUnit → DocUnit → List LaidAt → List LaidMove
 laid_unit_moves ms t vs u ls =
     if is_vacant (through ms t u.path) vs then option_map_or (λ p. laid_moves_below ms t vs p ls) u.path [] else []
@@ -45,7 +45,7 @@ laid_moves_from ms t vs [] lss = []
 laid_moves_from ms t vs (u ∷ us) [] = []
 laid_moves_from ms t vs (u ∷ us) (ls ∷ lss) = laid_unit_moves ms t vs u ls ++ laid_moves_from ms t vs us lss
 
--- those of strays that are in no new unit, where no modification is in the document
+-- the moves of the layout of strays that are in no new unit, where no modification is in the document
 abbrev pub laid_moves_aside : List DocUnit → List LaidAt → List LaidMove
 laid_moves_aside vs [] = []
 laid_moves_aside vs (l ∷ ls) =

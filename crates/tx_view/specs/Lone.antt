@@ -30,7 +30,7 @@ pub record IsLone (kept : Kept) (xs : List Shown) (i : ℕ) (a : Attrs) : Type 0
   pub nothing_laid : slice_get (laid_in xs) i ≡ Some None
   pub attributes : slice_set (laid_in xs) i (Some a) ≡ attributes_along empty (traces_of kept)
 
--- of n units none but number i was evaluated anew, and what was cached of the others is unchanged
+-- None of n units but number i was evaluated anew, and what was cached of the others is unchanged.
 pub record IsAlone (i n : ℕ) (old new : Kept) (flags : List Bool) : Type 0 where
   pub no_flag : (k : ℕ) → k < n → (k ≡ i → ⊥) → unwrap_or (slice_get flags k) false ≡ false
   pub stays : (k : ℕ) → k < n → (k ≡ i → ⊥) → slice_get new k ≡ slice_get old k

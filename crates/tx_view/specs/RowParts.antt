@@ -11,7 +11,7 @@ use Rattle.tx_bridge.specs.PartsKept.{fresh_parts}
 use Rattle.tx_unit_layout.specs.LaidAts.{is_by_parts, shown_parts_of}
 use Rattle.tx_view.specs.Costs.{entry_at}
 
--- of each line of parts, the path of its part
+-- for each line of parts, the path of its part
 pub data AreLineParts (width : ℕ) : List ShownPart → List (List ℕ) → Type 0 where
   no_parts : AreLineParts width [] []
   part_then : (p : ShownPart) (ps : List ShownPart) (own : List Line) (others : List (List ℕ))

@@ -9,7 +9,7 @@ use Rattle.tx_unit_layout.specs.Stretches.{stretches, line_parts}
 use Rattle.tx_unit_layout.specs.Views.{unit_view}
 use Rattle.tx_unit_layout.specs.declared.shown.Shown.{Shown}
 
--- of each row of a unit, the path from the unit's tree of the part that shows it, and an empty one where none does
+-- for each row of a unit, the path from the unit's tree of the part that shows it, and an empty one where none does
 abbrev pub unit_row_parts : Shown → List (List ℕ)
 unit_row_parts x = flat_map line_parts (stretches x)
 

@@ -30,7 +30,7 @@ abbrev pub attributes_from : Moment → List DocUnit → List (Option Attrs)
 attributes_from m [] = []
 attributes_from m (u ∷ us) = Some (attributes_of m.env) ∷ attributes_from (behind m (outcome_of m u)) us
 
--- of each unit, where parts of it were laid out, and for which attributes, from a moment on
+-- for each unit, where parts of it were laid out, and for which attributes, from a moment on
 abbrev pub laid_parts_from : Moment → List DocUnit → List (List LaidAt)
 laid_parts_from m [] = []
 laid_parts_from m (u ∷ us) =
@@ -49,7 +49,7 @@ fresh_stores us = record {
 
 -- ---- what a refresh leaves that ran out of memory
 
--- of unit i trace and attributes are those that the other stores have
+-- the trace and the attributes of unit i are those that the other stores have
 pub record HasUnitOf (stores other : ViewStores) (i : ℕ) : Type 0 where
   pub kept : slice_get stores.kept i ≡ slice_get other.kept i
   pub laid : slice_get stores.laid i ≡ slice_get other.laid i

@@ -27,7 +27,7 @@ row_counts xs = map (λ x. length x.lines) xs
 abbrev pub error_counts : List UnitView → List ℕ
 error_counts xs = map (λ x. length x.errors) xs
 
--- of lists with so many elements, the one that holds an element of all, and its number there
+-- where lists have so many elements, the list that holds element k of all, and its number there
 abbrev pub place_among : List ℕ → ℕ → Option (ℕ × ℕ)
 place_among [] k = None
 place_among (n ∷ ns) k = if nat_lt k n then Some (0, k) else option_map (λ p. (p.0 + 1, p.1)) (place_among ns (k - n))

@@ -1,4 +1,5 @@
--- A well formed value weighs at most 242 for each unit of its size, and a unit that is over 49.
+-- A well formed value weighs at most 242 for each unit of its size. A unit whose evaluation ran out of steps or levels
+-- weighs at most 49.
 use Rattle.std.proofs.Common.{◌≡◌, ◌+◌, ◌*◌, ◌≤◌, [], codes, refl, ap, arith}
 use Rattle.tx_tree.specs.WideTree.{WideTree, Forest, leaf, node, nil, cons, size_of}
 use Rattle.tx_tree.specs.Limits.{IsWellFormed, AreWellFormed}

@@ -16,7 +16,7 @@ abbrev pub stops_by : List ℕ → List Mark → List Place
 stops_by path [] = record { path = path; offset = 0 } ∷ []
 stops_by path (m ∷ ms) = flat_map (λ n. mark_place path n n.start ∷ (mark_place path n n.stop ∷ [])) (m ∷ ms)
 
--- of all items, also those that are on no line; only a unit with a path has stops
+-- the stops of all items, also those that are on no line; only a unit with a path has stops
 abbrev pub unit_stops : UnitView → List Place
 unit_stops x = option_map_or (λ path. stops_by path (marks_of (flat_map (λ p. p.items) x.paragraphs))) x.path []
 

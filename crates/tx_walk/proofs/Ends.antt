@@ -44,7 +44,7 @@ document_traced base j v looks writes is_v is_looks is_writes once =
       height = 1 + j.height;
     }) is_v
 
--- that of a `with`
+-- the trace of a `with`
 pub with_traced : (base : List ℕ) (pairs : List (Name × WideTree)) (values : List WideValue) (n : ℕ) (trace : Trace)
     (v : WideValue) (looks : Pairs) (writes : List (Name × WideTree)) →
     v ≡ made (codes "with") (vals (values ++ trace.value ∷ [])) (Some base) → looks ≡ outside pairs trace.looks →
@@ -79,7 +79,7 @@ with_traced base pairs values n trace v looks writes is_v is_looks is_writes =
       height = 1 + trace.height;
     }) (ap from_entries is_writes ∙ outside_is pairs trace.writes)
 
--- that of a tag, with the look at its label before it
+-- the trace of a tag, with the look at its label before it
 pub tag_traced : (trace : Trace) (before own mid looks : Pairs) → own ≡ [] →
     from_entries mid ≡ both_looks (from_entries before) (map_of own) (from_entries trace.looks) → looks ≡ mid →
     record {
@@ -100,7 +100,7 @@ tag_traced trace before own mid looks is_own joined is_looks =
     ∙ ap (λ o. both_looks (from_entries before) (map_of o) (from_entries trace.looks)) is_own
     ∙ ap (atop (from_entries before)) (past_none (from_entries trace.looks)))
 
--- that of a layer, of what was joined
+-- the trace of a layer, of what was joined
 pub layer_traced : (own : NameMap) (j mid : Joined) (n : ℕ) (trace : Trace) (w : WideTrace) (m : ℕ) →
     mid.values ≡ j.values → m ≡ max j.height trace.height →
     from_entries mid.looks ≡ both_looks (from_entries j.looks) (map_of j.writes)

@@ -34,7 +34,7 @@ pub if_false : (b : Bool) (o r : Option WideTrace) → b ≡ false → (if b the
 if_false false o r h = refl
 if_false true o r h = cc
 
--- of parts with different paths, the one at the path has the cached trace there
+-- where parts have different paths, the one at the path has the cached trace there
 pub at_path : (ps : List DonePart) (path : List ℕ) (i : ℕ) (p : DonePart) → IsDistinct bytes_eq (paths_of ps) →
     slice_get ps i ≡ Some p → bytes_eq p.path path ≡ true → kept_in ps path ≡ Some (wide_trace p.trace)
 unfolding IsDistinct

@@ -16,7 +16,7 @@ abbrev mutual
   are_same (cons t ts) nil = false
   are_same (cons t ts) (cons u us) = is_same t u && are_same ts us
 
--- of what a name has: a tree, or nothing
+-- whether two names have the same: a tree, or nothing
 abbrev pub same : Option WideTree → Option WideTree → Bool
 same None None = true
 same None (Some u) = false

@@ -9,11 +9,11 @@ use Rattle.tx_words.specs.declared.asked.FileWord.{FileWord}
 use Rattle.tx_words.specs.Words.{Named, AreNamedApart}
 use Rattle.tx_words.specs.Seen.{named_of}
 
--- what is asked of the first and of the others is asked of the others, where it holds of the first
+-- where it holds of the first, it holds of all exactly if it holds of the others
 first_holds : {X Y A : Type 0} → X → ((X × Y) ↔ A) → (Y ↔ A)
 first_holds x h = (λ y. h.0 (x, y), λ a. (h.1 a).1)
 
--- and nothing has it, where it doesn't hold of the first
+-- where it doesn't hold of the first, it doesn't hold of all
 first_fails : {X Y A : Type 0} → (X → ⊥) → ((X × Y) ↔ A) → A → ⊥
 first_fails fails h a = fails (h.1 a).0
 

@@ -4,7 +4,7 @@ use Rattle.tx_scan.proofs.SearchLemmas.{first_stop_from-in_block, first_stop_fro
 use Rattle.tx_scan.proofs.SearchLemmas.{first_stop_from-before, first_stop_from-found}
 use Rattle.tx_scan.proofs.search.first_stop.Goals as goal
 
--- the place in a block where the loop ends is the answer
+-- the place in a block where the loop ends is the result
 in_block : (c : goal.Then-run-lt-BLOCK_SIZE)
     → c.loop-at.at + c.run_in_block-run.result ≡ first_stop_from c.args.stops.now c.args.bytes.now c.args.from
 in_block c =

@@ -11,7 +11,7 @@ use Rattle.tx_text.proofs.Spreading.{cut_is, narrow}
 use Rattle.tx_text.proofs.Holding.{whole}
 use Rattle.tx_text.proofs.cutting.clusters.Goals as goal
 
--- the characters of clusters, one after the other
+-- the characters of clusters, in order
 abbrev glyphs_in : List Cluster → List ℕ
 glyphs_in found = flat_map (λ cluster. cluster.glyphs) found
 
