@@ -132,11 +132,12 @@ listed_held (m ∷ ms) t looks h e g = by (is_of t looks m) refl h (λ f. listed
 pub all_differ : (ms : List TreeTrace) (t : WideTree) (looks : LookMap) → list_any (is_of t looks) ms ≡ false
     → (x : TreeTrace) → x.tree ≡ t → x.trace.looks ≡ looks → AllDiffer x ms
 all_differ [] t looks h x is_tree is_looks = tt
-all_differ (m ∷ ms) t looks h x is_tree is_looks =
-    (λ one same. refused (is_of t looks m) (list_any (is_of t looks) ms) h
-    (and_true (is_same m.tree t) (are_among m.trace.looks looks) (is_same_of m.tree t (one ∙ is_tree))
-    (all_among m.trace.looks looks (same ∙ is_looks))),
-    all_differ ms t looks (later (is_of t looks m) (list_any (is_of t looks) ms) h) x is_tree is_looks)
+all_differ (m ∷ ms) t looks h x is_tree is_looks = (
+  λ one same. refused (is_of t looks m) (list_any (is_of t looks) ms) h
+      (and_true (is_same m.tree t) (are_among m.trace.looks looks) (is_same_of m.tree t (one ∙ is_tree))
+      (all_among m.trace.looks looks (same ∙ is_looks))),
+  all_differ ms t looks (later (is_of t looks m) (list_any (is_of t looks) ms) h) x is_tree is_looks,
+)
   where
     refused : (a b : Bool) → a || b ≡ false → a ≡ true → ⊥
     refused true b h g = cc
