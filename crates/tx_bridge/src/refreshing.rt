@@ -214,6 +214,8 @@ impl Bridges {
     /// cached of the whole. So another refresh with this opener, at which names have the same values, is charged
     /// nothing for layers. A paragraph is reached also where its parts aren't those that were cached, as after a
     /// refresh with another opener.
+    ///
+    /// Where memory runs out, nothing is left to evaluate of the layers of the units that were refreshed.
     pub fn refresh_with<O: Opener, L: Ledger>(
         &mut self,
         alloc: Global,
