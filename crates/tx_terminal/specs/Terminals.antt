@@ -1,7 +1,8 @@
 -- A terminal as rows of cells with a cursor, and what the bytes that are written to it make of it. Known are the
 -- control sequences of ECMA-48 that a screen is painted with, and the mode of xterm and DEC's terminals that shows the
--- cursor: CUP (`CSI row ; column H`), EL (`CSI 2 K`), SGR (`CSI m`, `CSI 0 m`, `CSI 7 m`) and DECTCEM (private
--- mode 25, `h` and `l`). After all else, and where terminals differ, the terminal is `unknown`, and nothing is said of what it shows.
+-- cursor: CUP (`CSI row ; column H`), EL (`CSI 2 K`), SGR (`CSI m`, `CSI 0 m`, `CSI 7 m`) and DECTCEM (private mode 25,
+-- `h` and `l`). After all else, and where terminals differ, the terminal is `unknown`, and nothing is said of what it
+-- shows.
 use Rattle.std.specs.Prelude.{ℕ, ◌+◌, ◌-◌, ◌*◌, ◌==◌, ◌&&◌, ◌||◌, not, nat_lt, nat_le, Bool, true, false, List, [], ◌∷◌}
 use Rattle.std.specs.Prelude.{◌++◌, length, take, drop, set, replicate, get_or, Option, Some, None, if◌then◌else◌}
 use Rattle.tx_terminal.specs.Characters.{character_length, is_second, is_later}
