@@ -20,10 +20,9 @@ use Rattle.tx_session.specs.Worlds.{SeenSession, WholeSession, World, IsAsBefore
 use Rattle.tx_session.specs.Worlds.{lacking, unsaved, told}
 use Rattle.tx_session.specs.Replies.{nothing, too_long, unread, command, faulty, IsAsked, IsRefusalReply, IsReply}
 use Rattle.tx_session.specs.Replies.{IsLineReply, refusal, wanting_reply}
-use Rattle.tx_session.specs.Scripts.{command_line}
 use Rattle.tx_session.proofs.Quits.{quit_spelled}
 use Rattle.tx_session.specs.Writing.{IsSaid}
-use Rattle.tx_session.specs.Keeping.{IsTurned}
+use Rattle.tx_session.specs.Executed.{IsExecuted}
 
 -- nothing changed, or some steps were counted
 pub as_before : (seen : World) → IsAsBefore seen seen
@@ -61,37 +60,37 @@ faulty_reply seen next line cause reply same asked named is e =
     (r.0, (faulty cause, (asked, named, is), r.1))
 
 -- a reply was said, and the session goes on
-pub said_turned : (result : Result Next WriteFault) (seen next : World) (bytes reply : List ℕ)
+pub said_turned : (result : Result Next WriteFault) (seen next : World) (line reply : List ℕ)
     (before after : Option (List ℕ)) → result ≢ Ok nexts.Quit
-    → (mark : LineMark) × IsLineReply seen (command_line bytes) mark next reply → IsSaid result reply before after
-    → IsTurned result seen bytes next before after
-said_turned (Ok nexts.Go) seen next bytes reply before after goes r said = (r.0, reply, r.1, said)
-said_turned (Ok nexts.Quit) seen next bytes reply before after goes r said = absurd (goes refl)
-said_turned (Err fault) seen next bytes reply before after goes r said = (r.0, reply, r.1, said)
+    → (mark : LineMark) × IsLineReply seen line mark next reply → IsSaid result reply before after
+    → IsExecuted result seen line next before after
+said_turned (Ok nexts.Go) seen next line reply before after goes r said = (r.0, reply, r.1, said)
+said_turned (Ok nexts.Quit) seen next line reply before after goes r said = absurd (goes refl)
+said_turned (Err fault) seen next line reply before after goes r said = (r.0, reply, r.1, said)
 
-module _ (result : Result Next WriteFault) (seen : World) (bytes : List ℕ) (before after : Option (List ℕ))
+module _ (result : Result Next WriteFault) (seen : World) (line : List ℕ) (before after : Option (List ℕ))
     (goes : result ≢ Ok nexts.Quit) where
   abbrev Said : CmdFault → Type 0
   Said cause = (reply : List ℕ) × ((reply ≡ refusal cause) ⊎ (reply ≡ wanting_reply)) × IsSaid result reply before after
 
-  pub long_turned : (count : ℕ) → MOST_LINE < length (command_line bytes) → count ≡ length (command_line bytes)
-      → Said (causes.Long count) → IsTurned result seen bytes seen before after
+  pub long_turned : (count : ℕ) → MOST_LINE < length line → count ≡ length line
+      → Said (causes.Long count) → IsExecuted result seen line seen before after
   long_turned count long is said =
-      said_turned result seen seen bytes said.0 before after goes
-      (long_reply seen (command_line bytes) count said.0 long is said.1) said.2
+      said_turned result seen seen line said.0 before after goes
+      (long_reply seen line count said.0 long is said.1) said.2
 
-  named_turned : (next : World) (cause : CmdFault) → IsAsBefore seen next → IsAsked (command_line bytes)
+  named_turned : (next : World) (cause : CmdFault) → IsAsBefore seen next → IsAsked line
       → cause ≢ causes.Memory
-      → IsCmdFault (command_line bytes) cause → Said cause → IsTurned result seen bytes next before after
+      → IsCmdFault line cause → Said cause → IsExecuted result seen line next before after
   named_turned next cause same asked named is said =
-      said_turned result seen next bytes said.0 before after goes
-      (faulty_reply seen next (command_line bytes) cause said.0 same asked named is said.1) said.2
+      said_turned result seen next line said.0 before after goes
+      (faulty_reply seen next line cause said.0 same asked named is said.1) said.2
 
   -- a line that is no command, or that memory did not suffice to read
-  pub refused_turned : (next : World) (cause : CmdFault) → IsAsBefore seen next → IsAsked (command_line bytes)
-      → IsCmdFault (command_line bytes) cause
-      → (cause ≡ causes.Memory → TakesMemory (up_to_space (command_line bytes))) → Said cause
-      → IsTurned result seen bytes next before after
+  pub refused_turned : (next : World) (cause : CmdFault) → IsAsBefore seen next → IsAsked line
+      → IsCmdFault line cause
+      → (cause ≡ causes.Memory → TakesMemory (up_to_space line)) → Said cause
+      → IsExecuted result seen line next before after
   refused_turned next (causes.Long n) same asked is takes said =
       named_turned next (causes.Long n) same asked (λ e. cc) is said
   refused_turned next causes.Unknown same asked is takes said =
@@ -103,13 +102,13 @@ module _ (result : Result Next WriteFault) (seen : World) (bytes : List ℕ) (be
   refused_turned next (causes.Tree f) same asked is takes said =
       named_turned next (causes.Tree f) same asked (λ e. cc) is said
   refused_turned next causes.Memory same asked is takes said =
-      said_turned result seen next bytes said.0 before after goes
-      (lacking_reply seen next (command_line bytes) said.0 same asked (takes refl) said.1) said.2
+      said_turned result seen next line said.0 before after goes
+      (lacking_reply seen next line said.0 same asked (takes refl) said.1) said.2
 
 -- an empty line
-pub empty_turned : (seen : World) (bytes : List ℕ) (before after : Option (List ℕ)) → command_line bytes ≡ []
-    → after ≡ append_known before [] → IsTurned (Ok nexts.Go) seen bytes seen before after
-empty_turned seen bytes before after e same = (plain, [], (nothing, e, (refl, refl, refl)), same)
+pub empty_turned : (seen : World) (line : List ℕ) (before after : Option (List ℕ)) → line ≡ []
+    → after ≡ append_known before [] → IsExecuted (Ok nexts.Go) seen line seen before after
+empty_turned seen line before after e same = (plain, [], (nothing, e, (refl, refl, refl)), same)
 
 pub same_seen : (a b : SeenSession) → a.state ≡ b.state → a.width ≡ b.width → a.height ≡ b.height → a.fresh ≡ b.fresh
     → a ≡ b
@@ -152,10 +151,10 @@ quit_stepped : (result : Result Next WriteFault) (seen next : World) (read : ℕ
 quit_stepped result seen next read before after h e r =
     quit_done seen next r.0 r.1 r.2 r.4 (e ∙ quit_read seen read h)
 
-module _ (seen next : World) (read : ℕ) (bytes : List ℕ) (it : Command) (before after : Option (List ℕ))
-    (some : IsAsked (command_line bytes)) (is : IsCommand (command_line bytes) it) (by : IsReadBy seen it read) where
+module _ (seen next : World) (read : ℕ) (line : List ℕ) (it : Command) (before after : Option (List ℕ))
+    (some : IsAsked line) (is : IsCommand line it) (by : IsReadBy seen it read) where
   step_replied : (result : Result Next WriteFault) → (it ≢ Quit)
-      → (r : IsStepped result seen read next it before after) → IsLineReply seen (command_line bytes) r.0 next r.1
+      → (r : IsStepped result seen read next it before after) → IsLineReply seen line r.0 next r.1
   step_replied result other r = (
     command it,
     (some, is),
@@ -174,12 +173,12 @@ module _ (seen next : World) (read : ℕ) (bytes : List ℕ) (it : Command) (bef
   -- the session's step did the command
   pub stepped_turned : (result : Result Next WriteFault) → (result ≡ Ok nexts.Quit → it ≡ Quit)
       → (it ≡ Quit → result ≡ Ok nexts.Quit) → (it ≡ Quit → after ≡ before) → (it ≡ Quit → next.steps ≡ read)
-      → IsStepped result seen read next it before after → IsTurned result seen bytes next before after
+      → IsStepped result seen read next it before after → IsExecuted result seen line next before after
   stepped_turned (Ok nexts.Go) quits quit silent still r =
       (r.0, r.1, step_replied (Ok nexts.Go) (λ e. let bad = quit e in cc) r, r.3)
   stepped_turned (Ok nexts.Quit) quits quit silent still r =
       let e = quits refl in (
-        quit_spelled (command_line bytes) (subst (IsCommand (command_line bytes)) e is),
+        quit_spelled line (subst (IsCommand line) e is),
         quit_stepped (Ok nexts.Quit) seen next read before after (subst (λ c. IsReadBy seen c read) e by) (still e)
             (subst (λ c. IsStepped (Ok nexts.Quit) seen read next c before after) e r),
         silent e,

@@ -7,10 +7,10 @@ use Rattle.tx_cmd.specs.declared.TheConstants.{MOST_LINE}
 use Rattle.tx_outside.specs.Known.{AppendsPart}
 use Rattle.tx_outside.specs.declared.faults.WriteFault.{WriteFault}
 use Rattle.tx_session.specs.declared.session.Next.{Next}
-use Rattle.tx_session.specs.declared.session.Next.TheVariants as nexts
 use Rattle.tx_session.specs.declared.kept_line.KeptLine.{KeptLine}
 use Rattle.tx_session.specs.declared.script.Turn.{Turn}
 use Rattle.tx_session.specs.declared.script.Turn.TheVariants as turns
+use Rattle.tx_session.specs.Executed.{IsExecuted}
 use Rattle.tx_session.specs.Replies.{IsLineReply}
 use Rattle.tx_session.specs.Worlds.{World, LineMark}
 use Rattle.tx_session.specs.Scripts.{HasEndedLines, Answered, command_line, is_quit}
@@ -21,15 +21,9 @@ pub record KeepsLine (line : KeptLine) (bytes : List ℕ) : Type 0 where
   pub count : line.count ≡ length bytes
   pub returned : line.returned ≡ ends_with nat_eq bytes (13 ∷ [])
 
--- what became of a line that was stored: it was executed, or it is `quit`, or its reply is written in part
+-- what became of a line that was stored
 abbrev pub IsTurned : Result Next WriteFault → World → List ℕ → World → (before after : Option (List ℕ)) → Type 0
-IsTurned (Ok nexts.Go) seen bytes next before after =
-    (mark : LineMark) × (reply : List ℕ) × IsLineReply seen (command_line bytes) mark next reply
-    × (after ≡ append_known before reply)
-IsTurned (Ok nexts.Quit) seen bytes next before after = (is_quit bytes ≡ true) × (next ≡ seen) × (after ≡ before)
-IsTurned (Err fault) seen bytes next before after =
-    (mark : LineMark) × (reply : List ℕ) × IsLineReply seen (command_line bytes) mark next reply
-    × AppendsPart reply before after
+IsTurned result seen bytes next before after = IsExecuted result seen (command_line bytes) next before after
 
 -- the bytes have these lines, which were executed, and the replies written
 pub record StandsAnswered (start : World) (before : Option (List ℕ)) (bytes rest : List ℕ) (seen : World)

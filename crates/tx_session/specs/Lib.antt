@@ -5,6 +5,7 @@ pub mod Causes
 pub mod States
 pub mod Worlds
 pub mod Effects
+pub mod Executed
 pub mod Keeps
 pub mod Replies
 pub mod Differences
@@ -14,6 +15,7 @@ pub mod Asking
 pub mod Saying
 pub mod Saves
 pub mod Writing
+pub mod Executed
 pub mod Keeping
 pub mod Slices
 pub mod Outcomes

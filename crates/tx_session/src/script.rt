@@ -8,6 +8,7 @@ ghost use Rattle.tx_session.specs.Replies.{refusal, wanting_reply};
 ghost use Rattle.tx_session.specs.Worlds.{World, world};
 ghost use Rattle.tx_session.specs.Scripts.{command_line, is_quit};
 ghost use Rattle.tx_session.specs.Runs.{TellsScript};
+ghost use Rattle.tx_session.specs.Executed.{IsExecuted};
 ghost use Rattle.tx_session.specs.Writing.{IsSaid};
 ghost use Rattle.tx_session.specs.Keeping.{KeepsLine, StandsWith, TurnLeadsTo, IsTurned};
 ghost use Rattle.tx_session.specs.Playing.{IsEnd};
@@ -20,7 +21,7 @@ use crate::status::Status;
 use std::alloc::Global;
 use std::sync::ledger::Ledger;
 use tx_base::{Memory, Steps};
-use tx_cmd::{CmdFault, parse};
+use tx_cmd::{CmdFault, MOST_LINE, parse};
 use tx_outside::{Failed, Sink, Source, Store, WriteFault};
 
 // Refuses a line that is no command.
@@ -32,6 +33,37 @@ fn refuse<O: Sink>(alloc: Global, out: &mut O, fault: CmdFault) -> Result<Next, 
     ensures output_goes_on { SinkGoesOn (O.seen out.old) (O.seen out.new) }
 {
     say(out, unread(alloc, fault).text())
+}
+
+impl Session {
+    /// Executes a line of a script, as `run` does. The line has no newline, and no return that belongs to one. An empty
+    /// line has no reply, and one that is no command is refused with its first cause (docs/COMMANDS.md). The replies
+    /// are the session's, whatever the lines before were. The one error is a failed output.
+    pub fn line<S: Store, O: Sink, L: Ledger>(
+        &mut self,
+        alloc: Global,
+        text: &[u8],
+        store: &mut S,
+        out: &mut O,
+        steps: &mut Steps<L>,
+    ) -> Result<Next, WriteFault>
+        ensures executed { IsExecuted result (world self.old (S.seen store.old) steps.old) text.now
+            (world self.new (S.seen store.new) steps.new) (O.seen out.old).written (O.seen out.new).written }
+        ensures failed_rose { OnErr result (Rose (O.seen out.old).faults (O.seen out.new).faults) }
+        ensures store_goes_on { StoreGoesOn (S.seen store.old) (S.seen store.new) }
+        ensures output_goes_on { SinkGoesOn (O.seen out.old) (O.seen out.new) }
+    {
+        if text.len() > MOST_LINE {
+            return refuse(alloc, out, CmdFault::Long(text.len() as u64));
+        }
+        if text.is_empty() {
+            return Ok(Next::Go);
+        }
+        match parse(alloc, text, steps) {
+            Ok(command) => self.step(alloc, &command, store, out, steps),
+            Err(fault) => refuse(alloc, out, fault),
+        }
+    }
 }
 
 // Executes a line that has ended.
@@ -51,16 +83,9 @@ fn answer_line<S: Store, O: Sink, L: Ledger>(
     ensures store_goes_on { StoreGoesOn (S.seen store.old) (S.seen store.new) }
     ensures output_goes_on { SinkGoesOn (O.seen out.old) (O.seen out.new) }
 {
-    let text = match line.text() {
-        Ok(text) => text,
-        Err(count) => return refuse(alloc, out, CmdFault::Long(count as u64)),
-    };
-    if text.is_empty() {
-        return Ok(Next::Go);
-    }
-    match parse(alloc, text, steps) {
-        Ok(command) => session.step(alloc, &command, store, out, steps),
-        Err(fault) => refuse(alloc, out, fault),
+    match line.text() {
+        Ok(text) => session.line(alloc, text, store, out, steps),
+        Err(count) => refuse(alloc, out, CmdFault::Long(count as u64)),
     }
 }
 

@@ -235,6 +235,25 @@ impl Session {
         })
     }
 
+    /// The documents, the cursor, and what can be undone and made again.
+    pub fn state(&self) -> &EditorState
+        ensures { result.now ≡ self.now.seen.state }
+    {
+        &self.state
+    }
+
+    /// The view. It is that of the present documents where a command that asks the view, or `work`, was the last that
+    /// was done since a document changed.
+    pub fn view(&self) -> &View
+        ensures shown { self.now.seen.fresh ≡ true → IsView self.now.seen.state.buffers self.now.seen.width
+            self.now.seen.height result.now.shown }
+        ensures width { result.now.width ≡ self.now.seen.width }
+        ensures height { result.now.height ≡ self.now.seen.height }
+    {
+        let _fresh = self.view.fresh();
+        &self.view
+    }
+
     // The tree of the selected buffer.
     fn selected(&self) -> &Tree
         ensures { result.now ≡ selected_tree self.now.seen.state }
