@@ -129,12 +129,18 @@ get_dropped f [] (suc i) b rest e = cc
 get_dropped f (x ∷ xs) zero b rest e = let same : x ≡ b = cc in ap (λ y. Some (f y)) same
 get_dropped f (x ∷ xs) (suc i) b rest e = get_dropped f xs i b rest e
 
+taken_suc : (xs : List Bridge) (i : ℕ) (b : Bridge) (rest : List Bridge) → drop i xs ≡ b ∷ rest
+    → take (suc i) xs ≡ take i xs ++ b ∷ []
+taken_suc [] zero b rest e = cc
+taken_suc [] (suc i) b rest e = cc
+taken_suc (x ∷ xs) zero b rest e = let same : x ≡ b = cc in ap (λ y. y ∷ []) same
+taken_suc (x ∷ xs) (suc i) b rest e = ap (λ ys. x ∷ ys) (taken_suc xs i b rest e)
+
 taken_to : (xs : List Bridge) (i : ℕ) (b : Bridge) (rest : List Bridge) → drop i xs ≡ b ∷ rest
     → take (i + 1) xs ≡ take i xs ++ b ∷ []
-taken_to [] zero b rest e = cc
-taken_to [] (suc i) b rest e = cc
-taken_to (x ∷ xs) zero b rest e = let same : x ≡ b = cc in ap (λ y. y ∷ []) same
-taken_to (x ∷ xs) (suc i) b rest e = ap (λ ys. x ∷ ys) (taken_to xs i b rest e)
+taken_to xs i b rest e =
+    let next : i + 1 ≡ suc i = omega arith in
+    ap (λ n. take n xs) next ∙ taken_suc xs i b rest e
 
 units_append : (xs ys : List Bridge) → units_in (xs ++ ys) ≡ units_in xs ++ units_in ys
 units_append [] ys = refl

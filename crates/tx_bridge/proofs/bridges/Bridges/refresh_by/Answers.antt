@@ -1,4 +1,4 @@
-use Rattle.std.proofs.Common.{◌≡◌, ◌∙◌, ◌++◌, ap, sym, subst, take, drop, length, arith, true, false}
+use Rattle.std.proofs.Common.{◌≡◌, ◌∙◌, ◌++◌, refl, ap, sym, subst, take, drop, length, arith, true, false}
 use Rattle.std.proofs.lemmas.Grind.{common_steps}
 use Rattle.std.specs.Prelude.{IfSome, option_copied}
 use Rattle.std.specs.List.{All}
@@ -51,6 +51,10 @@ invariant_of-self g c =
           ∙ ap (λ bs. units_of (entries_of bs)) c.deref_mut.ensures.value)) c.self.invariant.strays;
       tidy = c.self.invariant.tidy;
     }
+
+pub returns-in_err-moment-clause-refused : goal.returns-in_err-moment-clause-refused
+unfolding FreshTracesFrom FreshPartsBy KnowsLayers
+returns-in_err-moment-clause-refused g c = any_err c.from_residual.result (0, refl, refl, refl, tt)
 
 pub returns-in_err-charges-clause-refused : goal.returns-in_err-charges-clause-refused
 unfolding FreshTracesFrom FreshPartsBy KnowsLayers
