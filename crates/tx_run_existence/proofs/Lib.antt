@@ -1,0 +1,15 @@
+pub mod Asked
+pub mod Opening
+pub mod Inverses
+pub mod LeftOut
+pub mod States
+pub mod TakenBack
+pub mod Keys
+pub mod Going
+pub mod Answers
+pub mod Stores
+pub mod Replies
+pub mod Lines
+pub mod Playing
+pub mod Ready
+pub mod Running
