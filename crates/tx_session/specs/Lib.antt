@@ -5,7 +5,6 @@ pub mod Causes
 pub mod States
 pub mod Worlds
 pub mod Effects
-pub mod Executed
 pub mod Keeps
 pub mod Replies
 pub mod Differences

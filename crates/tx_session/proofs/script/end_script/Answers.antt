@@ -19,4 +19,4 @@ returns-in-Err-Failed-clause-end g c =
     (world c.answer_line.new.session (g.S.Store.seen c.answer_line.new.store) c.answer_line.new.steps) told before
     (g.O.Sink.seen c.args.out.now).written
     (g.O.Sink.seen c.answer_line.new.out).written script s.rest tells short s.stands
-    (turned_cut _ _ _ _ _ _ _ c.in-Err-Failed.is (c.answer_line.ensures.answered s.rest s.kept))
+    (turned_cut _ _ _ _ s.rest _ _ c.in-Err-Failed.is (c.answer_line.ensures.answered s.rest s.kept))

@@ -16,7 +16,7 @@ returns-in-Ok-clause-leads g c = λ start before bytes s.
 
 pub returns-in-Ok-Go-clause-leads : goal.returns-in-Ok-Go-clause-leads
 returns-in-Ok-Go-clause-leads g c = λ start before bytes s.
-    let went = turned_go c.in-Ok-Go.field-0 _ _ _ _ _ c.in-Ok-Go.field-0-is
+    let went = turned_go c.in-Ok-Go.field-0 _ _ s.rest _ _ c.in-Ok-Go.field-0-is
     (c.in-Ok-Go.ensures.answered s.rest s.kept) in
     record {
       rest = [];
@@ -35,7 +35,7 @@ returns-in-Err-Failed-clause-leads g c = λ start before bytes s. (
   [],
   ends_at bytes _ c.if-byte-ne10.false,
   cut_at start before bytes s.rest _ _ _ _
-      (turned_cut _ _ _ _ _ _ _ c.in-Err-Failed.is (c.answer_line.ensures.answered s.rest s.kept)) s.stands,
+      (turned_cut _ _ _ _ s.rest _ _ c.in-Err-Failed.is (c.answer_line.ensures.answered s.rest s.kept)) s.stands,
 )
 
 pub returns-in-Err-clause-leads : goal.returns-in-Err-clause-leads
