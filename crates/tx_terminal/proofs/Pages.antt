@@ -15,11 +15,11 @@ use Rattle.tx_terminal.proofs.Rows.{row_length, row_painted}
 abbrev AreShown : List (List Shown) → Type 0
 AreShown rows = AllByRecursion (AllByRecursion IsShown) rows
 
-none_painted : (t : Terminal) (r : ℕ) → with_rows t r [] ≡ t.rows
+pub none_painted : (t : Terminal) (r : ℕ) → with_rows t r [] ≡ t.rows
 none_painted t r = let same : r + 0 ≡ r = omega arith in rw (same) (take-append-drop r t.rows)
 
 -- the rows after one that is painted
-one_painted : (t : Terminal) (r : ℕ) (row : List Shown) (rows : List (List Shown)) → r < length t.rows
+pub one_painted : (t : Terminal) (r : ℕ) (row : List Shown) (rows : List (List Shown)) → r < length t.rows
     → with_rows (with_row t r (row_cells row)) (r + 1) rows ≡ with_rows t r (row ∷ rows)
 one_painted t r row rows there =
     let cells : List Cell = filled t.width (row_cells row) in
@@ -35,7 +35,7 @@ rows_painted : (rows : List (List Shown)) (r : ℕ) (t : Terminal) → AreShown 
     → r + length rows ≤ length t.rows → 0 < t.width → AllByRecursion (Fits t) rows
     → HasRows t r rows (after_bytes (quiet t) (rows_bytes r rows))
 rows_painted [] r t ok few there wide fits =
-    (t.cursor, t.reverse, ap (λ all. record t { rows = all; mode = settled }) (sym (none_painted t r)))
+    (t.cursor, t.ink, ap (λ all. record t { rows = all; mode = settled }) (sym (none_painted t r)))
 rows_painted (row ∷ rows) r t ok few there wide fits =
     let next : Terminal = with_row t r (row_cells row) in
     let below : r < length t.rows = omega (arith, there) in
@@ -49,7 +49,7 @@ rows_painted (row ∷ rows) r t ok few there wide fits =
       after_both (row_bytes r row) (rows_bytes (r + 1) rows) (quiet t)
           ∙ ap (λ u. after_bytes u (rows_bytes (r + 1) rows)) one
           ∙ rest.2
-          ∙ ap (λ all. record t { rows = all; cursor = rest.0; reverse = rest.1; mode = settled })
+          ∙ ap (λ all. record t { rows = all; cursor = rest.0; ink = rest.1; mode = settled })
           (one_painted t r row rows below),
     )
 

@@ -2,6 +2,7 @@
 use Rattle.std.specs.Prelude.{◌≡◌, ℕ, ◌+◌, ◌≤◌, ◌==◌, ◌&&◌, ◌||◌, nat_le, Bool, true, false, List, [], ◌∷◌, length}
 use Rattle.std.specs.Prelude.{if◌then◌else◌}
 use Rattle.std.specs.List.{list_all}
+use Rattle.tx_terminal.specs.declared.inks.Ink.{Ink}
 
 -- the bytes of the character that a byte begins; 0 for a control, and where none begins with it
 abbrev pub character_length : ℕ → ℕ
@@ -32,11 +33,11 @@ is_character [] = false
 is_character (a ∷ []) = character_length a == 1
 is_character (a ∷ b ∷ bs) = (character_length a == length bs + 2) && (is_second a b && list_all is_later bs)
 
--- A character of a row: its bytes, the cells that it takes, and whether it is shown in reverse.
+-- A character of a row: its bytes, the cells that it takes, and how it is shown.
 pub record Shown : Type 0 where
   pub glyphs : List ℕ
   pub cells : ℕ
-  pub reverse : Bool
+  pub ink : Ink
 
 pub record IsShown (s : Shown) : Type 0 where
   pub one : is_character s.glyphs ≡ true

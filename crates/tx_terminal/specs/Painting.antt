@@ -1,7 +1,10 @@
 -- What it is to paint a row, and the bytes that do it.
-use Rattle.std.specs.Prelude.{◌≡◌, ℕ, ◌+◌, ◌-◌, ◌*◌, ◌<◌, ◌≤◌, Bool, true, false, List, [], ◌∷◌, ◌++◌, length}
-use Rattle.std.specs.Prelude.{set, take, drop, map, replicate, decimal, Option}
+use Rattle.std.specs.Prelude.{◌≡◌, ℕ, ◌+◌, ◌-◌, ◌*◌, ◌<◌, ◌≤◌, Bool, List, [], ◌∷◌, ◌++◌, length}
+use Rattle.std.specs.Prelude.{set, take, drop, map, replicate, decimal, Option, Some, None, if◌then◌else◌}
 use Rattle.std.specs.List.{AllByRecursion, flat_map}
+use Rattle.tx_terminal.specs.declared.inks.Color.{Color}
+use Rattle.tx_terminal.specs.declared.inks.Ink.{Ink}
+use Rattle.tx_terminal.specs.Inks.{plain, color_number, is_same_ink}
 use Rattle.tx_terminal.specs.Characters.{Shown}
 use Rattle.tx_terminal.specs.Terminals.{Cell, Terminal, blank, character_cells, cursor_at, quiet, standing_at}
 use Rattle.tx_terminal.specs.Terminals.{after_bytes}
@@ -9,7 +12,7 @@ use Rattle.tx_terminal.specs.Terminals.Mode.{settled}
 
 -- the cells of a row's characters
 abbrev pub shown_cells : Shown → List Cell
-shown_cells s = character_cells s.glyphs s.cells s.reverse
+shown_cells s = character_cells s.glyphs s.cells s.ink
 
 abbrev pub row_cells : List Shown → List Cell
 row_cells row = flat_map shown_cells row
@@ -29,14 +32,23 @@ with_row t r cells =
     record t {
       rows = set t.rows r (filled t.width cells);
       cursor = cursor_at t r (length cells);
-      reverse = false;
+      ink = plain;
       mode = settled;
     }
 
--- These bytes paint a row, whatever the terminal showed before, wherever its cursor was, and whether text was reverse.
+-- how often the ink changes along a row, from an ink on
+abbrev pub ink_changes : Ink → List Shown → ℕ
+ink_changes ink [] = 0
+ink_changes ink (s ∷ ss) = (if is_same_ink ink s.ink then 0 else 1) + ink_changes s.ink ss
+
+-- the most bytes that a row needs
+abbrev pub most_row_bytes : List Shown → ℕ
+most_row_bytes row = 20 + 4 * length row + 20 * ink_changes plain row
+
+-- These bytes paint a row, whatever the terminal showed before, wherever its cursor was, and however text was written.
 pub record Paints (bytes : List ℕ) (r : ℕ) (row : List Shown) : Type 0 where
   -- how many they are at most
-  pub few : length bytes ≤ 20 + 8 * length row
+  pub few : length bytes ≤ most_row_bytes row
   pub painted : (t : Terminal) → r < length t.rows → 0 < t.width → length (row_cells row) ≤ t.width
       → AllByRecursion (IsAsWide t) row → after_bytes (quiet t) bytes ≡ with_row t r (row_cells row)
 
@@ -49,20 +61,20 @@ abbrev pub with_rows : Terminal → ℕ → List (List Shown) → List (List Cel
 with_rows t r rows =
     take r t.rows ++ (map (λ row. filled t.width (row_cells row)) rows ++ drop (r + length rows) t.rows)
 
--- nothing has changed but these rows from row r on, the cursor and the rendition of text
+-- nothing has changed but these rows from row r on, the cursor and the ink of text
 abbrev pub HasRows : Terminal → ℕ → List (List Shown) → Terminal → Type 0
 HasRows t r rows u =
-    (cursor : Option (ℕ × ℕ)) × (reverse : Bool) × (u ≡ record t {
+    (cursor : Option (ℕ × ℕ)) × (ink : Ink) × (u ≡ record t {
       rows = with_rows t r rows;
       cursor = cursor;
-      reverse = reverse;
+      ink = ink;
       mode = settled;
     })
 
 -- the most bytes that rows need
 abbrev pub most_bytes : List (List Shown) → ℕ
 most_bytes [] = 0
-most_bytes (row ∷ rows) = 20 + 8 * length row + most_bytes rows
+most_bytes (row ∷ rows) = most_row_bytes row + most_bytes rows
 
 -- These bytes paint rows, from the first of the terminal on, whatever it showed before.
 pub record PaintsRows (bytes : List ℕ) (rows : List (List Shown)) : Type 0 where
@@ -86,24 +98,38 @@ pub record ShowsCursor (bytes : List ℕ) (shown : Bool) : Type 0 where
 abbrev pub move_bytes : ℕ → ℕ → List ℕ
 move_bytes r c = 27 ∷ (91 ∷ (decimal (r + 1) ++ (59 ∷ (decimal (c + 1) ++ 72 ∷ []))))
 
--- SGR: from plain or reverse to plain or reverse
-abbrev pub rendition_bytes : Bool → Bool → List ℕ
-rendition_bytes false true = 27 ∷ 91 ∷ 55 ∷ 109 ∷ []
-rendition_bytes true false = 27 ∷ 91 ∷ 109 ∷ []
-rendition_bytes false false = []
-rendition_bytes true true = []
+-- SGR with the number that these digits spell, or with none
+abbrev pub sgr : List ℕ → List ℕ
+sgr digits = 27 ∷ 91 ∷ (digits ++ 109 ∷ [])
+
+abbrev pub part_bytes : Bool → ℕ → List ℕ
+part_bytes is_set digit = if is_set then sgr (digit ∷ []) else []
+
+abbrev pub color_bytes : Option Color → List ℕ
+color_bytes None = []
+color_bytes (Some color) = sgr (51 ∷ (48 + color_number color) ∷ [])
+
+-- plain, and then each part of an ink
+abbrev pub ink_bytes : Ink → List ℕ
+ink_bytes ink =
+    sgr [] ++ (part_bytes ink.bold 49
+    ++ (part_bytes ink.italic 51 ++ (part_bytes ink.reverse 55 ++ color_bytes ink.color)))
+
+-- from an ink to an ink
+abbrev pub change_bytes : Ink → Ink → List ℕ
+change_bytes from to = if is_same_ink from to then [] else ink_bytes to
 
 -- characters in order, and plain after the last one
-abbrev pub text_bytes : Bool → List Shown → List ℕ
-text_bytes reverse [] = rendition_bytes reverse false
-text_bytes reverse (s ∷ ss) = rendition_bytes reverse s.reverse ++ (s.glyphs ++ text_bytes s.reverse ss)
+abbrev pub text_bytes : Ink → List Shown → List ℕ
+text_bytes ink [] = change_bytes ink plain
+text_bytes ink (s ∷ ss) = change_bytes ink s.ink ++ (s.glyphs ++ text_bytes s.ink ss)
 
 -- plain, and the row erased
 abbrev pub clearing : List ℕ
 clearing = 27 ∷ 91 ∷ 109 ∷ 27 ∷ 91 ∷ 50 ∷ 75 ∷ []
 
 abbrev pub row_bytes : ℕ → List Shown → List ℕ
-row_bytes r row = move_bytes r 0 ++ (clearing ++ text_bytes false row)
+row_bytes r row = move_bytes r 0 ++ (clearing ++ text_bytes plain row)
 
 -- rows in order, from row r of the terminal on
 abbrev pub rows_bytes : ℕ → List (List Shown) → List ℕ

@@ -1,24 +1,27 @@
 -- A terminal as rows of cells with a cursor, and what the bytes that are written to it make of it. Known are the
 -- control sequences of ECMA-48 that a screen is painted with, and the mode of xterm and DEC's terminals that shows the
--- cursor: CUP (`CSI row ; column H`), EL (`CSI 2 K`), SGR (`CSI m`, `CSI 0 m`, `CSI 7 m`) and DECTCEM (private mode 25,
--- `h` and `l`). After all else, and where terminals differ, the terminal is `unknown`, and nothing is said of what it
--- shows.
+-- cursor: CUP (`CSI row ; column H`), EL (`CSI 2 K`), SGR (`CSI m` and `CSI n m` where n is 0, 1, 3, 7 or from 30 to
+-- 37) and DECTCEM (private mode 25, `h` and `l`). After all else, and where terminals differ, the terminal is
+-- `unknown`, and nothing is said of what it shows.
 use Rattle.std.specs.Prelude.{ℕ, ◌+◌, ◌-◌, ◌*◌, ◌==◌, ◌&&◌, ◌||◌, not, nat_lt, nat_le, Bool, true, false, List, [], ◌∷◌}
-use Rattle.std.specs.Prelude.{◌++◌, length, take, drop, set, replicate, get_or, Option, Some, None, if◌then◌else◌}
+use Rattle.std.specs.Prelude.{◌++◌, length, take, drop, set, replicate, get_or, slice_get, Option, Some, None}
+use Rattle.std.specs.Prelude.{if◌then◌else◌}
+use Rattle.tx_terminal.specs.declared.inks.Ink.{Ink}
+use Rattle.tx_terminal.specs.Inks.{plain, colors, is_same_ink}
 use Rattle.tx_terminal.specs.Characters.{character_length, is_second, is_later}
 
 -- What a cell shows: the bytes of a character in the first of its cells, and none in the others.
 pub record Cell : Type 0 where
   pub glyphs : List ℕ
-  pub reverse : Bool
+  pub ink : Ink
 
 abbrev pub blank : Cell
-blank = record { glyphs = 32 ∷ []; reverse = false }
+blank = record { glyphs = 32 ∷ []; ink = plain }
 
 -- the cells of a character that takes n of them
-abbrev pub character_cells : List ℕ → ℕ → Bool → List Cell
-character_cells glyphs n reverse =
-    record { glyphs = glyphs; reverse = reverse } ∷ replicate (n - 1) (record { glyphs = []; reverse = reverse })
+abbrev pub character_cells : List ℕ → ℕ → Ink → List Cell
+character_cells glyphs n ink =
+    record { glyphs = glyphs; ink = ink } ∷ replicate (n - 1) (record { glyphs = []; ink = ink })
 
 -- what the bytes so far have begun
 pub data Mode : Type 0 where
@@ -39,8 +42,8 @@ pub record Terminal : Type 0 where
   pub cells_of : List ℕ → ℕ
   -- Row and column from 0. None after the last column, where some terminals wrap and others do not.
   pub cursor : Option (ℕ × ℕ)
-  -- whether text is written in reverse
-  pub reverse : Bool
+  -- how text is written
+  pub ink : Ink
   pub cursor_shown : Bool
   pub mode : Mode
 
@@ -77,7 +80,7 @@ abbrev pub put : Terminal → ℕ → ℕ → List ℕ → ℕ → Terminal
 put t r c glyphs n =
     if nat_le 1 n && (nat_le (c + n) t.width && not (is_rest (row_at t r) c || is_rest (row_at t r) (c + n)))
     then record t {
-      rows = set t.rows r (take c (row_at t r) ++ (character_cells glyphs n t.reverse ++ drop (c + n) (row_at t r)));
+      rows = set t.rows r (take c (row_at t r) ++ (character_cells glyphs n t.ink ++ drop (c + n) (row_at t r)));
       cursor = cursor_at t r (c + n);
       mode = settled;
     }
@@ -95,18 +98,25 @@ go_to t r c =
     if nat_le 1 r && (nat_le r (length t.rows) && (nat_le 1 c && nat_le c t.width)) then standing_at t (r - 1) (c - 1)
     else unknown_from t
 
--- EL 2: all of the cursor's row becomes blank. Terminals differ in what they do where text is reverse.
+-- EL 2: all of the cursor's row becomes blank. Terminals differ in what they do where text isn't plain.
 abbrev pub erase_row : Terminal → Option (ℕ × ℕ) → Terminal
 erase_row t None = unknown_from t
 erase_row t (Some place) =
-    if t.reverse then unknown_from t
-    else record t { rows = set t.rows place.0 (replicate t.width blank); mode = settled }
+    if is_same_ink t.ink plain then record t { rows = set t.rows place.0 (replicate t.width blank); mode = settled }
+    else unknown_from t
 
--- SGR: 0 is plain, 7 is reverse
+-- the same terminal, where text is written so
+abbrev pub writing_in : Terminal → Ink → Terminal
+writing_in t ink = record t { ink = ink; mode = settled }
+
+-- SGR: 0 is plain, 1 bold, 3 italic, 7 reverse, and 30 to 37 are the colors
 abbrev pub set_rendition : Terminal → ℕ → Terminal
 set_rendition t n =
-    if n == 0 then record t { reverse = false; mode = settled }
-    else if n == 7 then record t { reverse = true; mode = settled }
+    if n == 0 then writing_in t plain
+    else if n == 1 then writing_in t (record t.ink { bold = true })
+    else if n == 3 then writing_in t (record t.ink { italic = true })
+    else if n == 7 then writing_in t (record t.ink { reverse = true })
+    else if nat_le 30 n && nat_le n 37 then writing_in t (record t.ink { color = slice_get colors (n - 30) })
     else unknown_from t
 
 -- by the last byte and the number before it

@@ -1,18 +1,20 @@
 // Characters of a row.
 ghost use Rattle.std.specs.Prelude.{◌≡◌, ◌≤◌, ◌&&◌, ◌∷◌, [], true, false, length, nat_le, take, Some, None, IfSome};
+ghost use Rattle.std.specs.Prelude.{◌↔◌, IsTrue};
 ghost use Rattle.std.specs.List.{list_all};
 ghost use Rattle.tx_terminal.specs.Characters.{Shown, IsShown, character_length, least_second, most_second};
 ghost use Rattle.tx_terminal.specs.Characters.{is_second, is_later, is_character};
 
+use crate::inks::Ink;
 use std::marker::Model;
 
-/// A character of a row: its bytes in UTF-8, the cells that a terminal shows it in, and whether it is shown in reverse.
+/// A character of a row: its bytes in UTF-8, the cells that a terminal shows it in, and how it is shown.
 #[derive(Drop)]
 pub struct Character {
     held: [u8; 4],
     len: u8,
     cells: u8,
-    is_reverse: bool,
+    ink: Ink,
 }
 
 impl Model for Character {
@@ -21,10 +23,10 @@ impl Model for Character {
 
     ghost Value = { Shown };
 
-    ghost view = { λ c. record { glyphs = take c.len c.held; cells = c.cells; reverse = c.is_reverse } };
+    ghost view = { λ c. record { glyphs = take c.len c.held; cells = c.cells; ink = c.ink } };
 
     ghost invariant = { λ c. (c.len ≤ 4)
-        × IsShown (record { glyphs = take c.len c.held; cells = c.cells; reverse = c.is_reverse }) };
+        × IsShown (record { glyphs = take c.len c.held; cells = c.cells; ink = c.ink }) };
 }
 
 // How many bytes the character has that a byte begins; 0 for a control, and where none begins with it.
@@ -94,8 +96,8 @@ fn is_character(bytes: &[u8]) -> bool
 impl Character {
     /// The character that these bytes are in UTF-8, in so many cells. None where they are not one character, where it
     /// is a control (U+0000 to U+001F and U+007F to U+009F), and where there are no cells.
-    pub fn new(bytes: &[u8], cells: u8, is_reverse: bool) -> Option<Character>
-        ensures given { IfSome result (λ c. c ≡ record { glyphs = bytes.now; cells = cells; reverse = is_reverse }) }
+    pub fn new(bytes: &[u8], cells: u8, ink: Ink) -> Option<Character>
+        ensures given { IfSome result (λ c. c ≡ record { glyphs = bytes.now; cells = cells; ink = ink }) }
         ensures valid { IfSome result IsShown }
         ensures none { result ≡ None → (is_character bytes.now && nat_le 1 cells) ≡ false }
     {
@@ -109,7 +111,7 @@ impl Character {
             held,
             len: len as u8,
             cells,
-            is_reverse,
+            ink,
         })
     }
 
@@ -121,11 +123,18 @@ impl Character {
         &self.held[..usize::from(self.len)]
     }
 
-    /// Whether it is shown in reverse.
-    pub fn is_reverse(&self) -> bool
-        ensures { result ≡ self.now.reverse }
+    /// In how many cells it is shown.
+    pub fn cells(&self) -> u8
+        ensures { result ≡ self.now.cells }
     {
-        self.is_reverse
+        self.cells
+    }
+
+    /// How it is shown.
+    pub fn ink(&self) -> Ink
+        ensures { result ≡ self.now.ink }
+    {
+        self.ink
     }
 }
 
@@ -152,6 +161,13 @@ impl Row {
         Row { all: characters }
     }
 
+    /// Its characters, where the row is no longer needed.
+    pub fn into_vec(self) -> Vec<Character>
+        ensures { result.items ≡ self }
+    {
+        self.all
+    }
+
     /// Its characters.
     pub fn characters(&self) -> &[Character]
         ensures { result.now ≡ self.now }
@@ -160,9 +176,39 @@ impl Row {
     }
 }
 
+// Whether two characters are the same, in the same cells and rendition.
+fn is_same(one: &Character, other: &Character) -> bool
+    ensures { IsTrue result ↔ (one.now ≡ other.now) }
+{
+    one.bytes() == other.bytes() && one.cells == other.cells && one.ink == other.ink
+}
+
+// Whether as many characters are the same, in order.
+fn are_same(some: &[Character], others: &[Character]) -> bool
+    requires { length some.now ≡ length others.now }
+    ensures { IsTrue result ↔ (some.now ≡ others.now) }
+{
+    for (one, other) in some.iter().zip(others) {
+        if !is_same(one, other) {
+            return false;
+        }
+    }
+    true
+}
+
+impl Row {
+    /// Whether this row has the same characters as another, in the same cells and rendition.
+    pub fn is(&self, other: &Row) -> bool
+        ensures { IsTrue result ↔ (self.now ≡ other.now) }
+    {
+        self.all.len() == other.all.len() && are_same(&self.all, &other.all)
+    }
+}
+
 #[cfg(test)]
 mod tests {
     use super::Character;
+    use crate::inks::{Color, Ink};
 
     // No controls, one character, no longer form than needed, no surrogate, nothing past U+10FFFF.
     const OTHERS: [&[u8]; 13] = [
@@ -194,14 +240,18 @@ mod tests {
 
     #[test]
     fn characters(rt: HostRuntime) {
+        let red = Ink {
+            color: Some(Color::Red),
+            ..Ink::PLAIN
+        };
         for bytes in &OTHERS {
-            assert!(rt; Character::new(*bytes, 1, false).is_none());
+            assert!(rt; Character::new(*bytes, 1, Ink::PLAIN).is_none());
         }
         for bytes in &CHARACTERS {
-            let character = Character::new(*bytes, 1, true).unwrap();
+            let character = Character::new(*bytes, 1, red).unwrap();
             assert!(rt; character.bytes() == *bytes);
-            assert!(rt; character.is_reverse());
-            assert!(rt; Character::new(*bytes, 0, true).is_none());
+            assert!(rt; character.ink() == red);
+            assert!(rt; Character::new(*bytes, 0, red).is_none());
         }
     }
 }

@@ -1,12 +1,15 @@
 // The bytes that paint rows and place the cursor.
-ghost use Rattle.std.specs.Prelude.{◌≡◌, ℕ, ◌+◌, ◌<◌, ◌++◌, List, false, take, length, decimal, IfOk, OnOk, OnErr};
+ghost use Rattle.std.specs.Prelude.{◌≡◌, ℕ, ◌+◌, ◌<◌, ◌++◌, List, take, length, decimal, IfOk, OnOk, OnErr};
 ghost use Rattle.std.specs.List.{AllByRecursion};
+ghost use Rattle.tx_terminal.specs.Inks.{plain};
 ghost use Rattle.tx_terminal.specs.Characters.{IsShown};
 ghost use Rattle.tx_terminal.specs.Terminals.{Terminal, after_bytes};
 ghost use Rattle.tx_terminal.specs.Painting.{Paints, PaintsRows, Moves, ShowsCursor};
-ghost use Rattle.tx_terminal.specs.Painting.{move_bytes, rendition_bytes, text_bytes, row_bytes, rows_bytes};
+ghost use Rattle.tx_terminal.specs.Painting.{move_bytes, part_bytes, color_bytes, change_bytes, text_bytes, row_bytes};
+ghost use Rattle.tx_terminal.specs.Painting.{rows_bytes};
 
 use crate::characters::{Character, Row};
+use crate::inks::{Color, Ink};
 use itoa::Buffer;
 use tx_base::Memory;
 
@@ -33,45 +36,68 @@ fn add_move(row: u16, column: u16, out: &mut Vec<u8>) -> Result<(), Memory>
     Ok(())
 }
 
-// Adds what makes text plain or reverse, where it isn't so already.
-fn add_rendition(from: bool, to: bool, out: &mut Vec<u8>) -> Result<(), Memory>
-    ensures added { OnOk result (out.new.items ≡ out.old.items ++ rendition_bytes from to) }
+// Adds a part of an ink by its digit, where the ink has it.
+fn add_part(is_set: bool, digit: u8, out: &mut Vec<u8>) -> Result<(), Memory>
+    ensures added { OnOk result (out.new.items ≡ out.old.items ++ part_bytes is_set digit) }
     ensures grows { take (length out.old.items) out.new.items ≡ out.old.items }
 {
-    if from && !to {
-        out.extend_from_slice(b"\x1b[m")?;
-    }
-    if !from && to {
-        out.extend_from_slice(b"\x1b[7m")?;
+    if is_set {
+        out.extend_from_slice(&[0x1b, b'[', digit, b'm'])?;
     }
     Ok(())
 }
 
-// Adds one character, and returns whether text is in reverse after it.
-fn add_character(from: bool, character: &Character, out: &mut Vec<u8>) -> Result<bool, Memory>
-    ensures added { IfOk result (λ to. (to ≡ character.now.reverse)
-        × (out.new.items ≡ out.old.items ++ (rendition_bytes from character.now.reverse ++ character.now.glyphs))) }
+// Adds the color of an ink.
+fn add_color(color: Option<Color>, out: &mut Vec<u8>) -> Result<(), Memory>
+    ensures added { OnOk result (out.new.items ≡ out.old.items ++ color_bytes color) }
+    ensures grows { take (length out.old.items) out.new.items ≡ out.old.items }
+{
+    if let Some(color) = color {
+        out.extend_from_slice(&[0x1b, b'[', b'3', b'0' + color as u8, b'm'])?;
+    }
+    Ok(())
+}
+
+// Adds what writes text in another ink, and nothing where it is the same.
+fn add_ink(from: Ink, to: Ink, out: &mut Vec<u8>) -> Result<(), Memory>
+    ensures added { OnOk result (out.new.items ≡ out.old.items ++ change_bytes from to) }
+    ensures grows { take (length out.old.items) out.new.items ≡ out.old.items }
+{
+    if from == to {
+        return Ok(());
+    }
+    out.extend_from_slice(b"\x1b[m")?;
+    add_part(to.bold, b'1', out)?;
+    add_part(to.italic, b'3', out)?;
+    add_part(to.reverse, b'7', out)?;
+    add_color(to.color, out)
+}
+
+// Adds one character, and returns the ink in which text is written after it.
+fn add_character(from: Ink, character: &Character, out: &mut Vec<u8>) -> Result<Ink, Memory>
+    ensures added { IfOk result (λ to. (to ≡ character.now.ink)
+        × (out.new.items ≡ out.old.items ++ (change_bytes from character.now.ink ++ character.now.glyphs))) }
     ensures valid { IsShown character.now }
     ensures grows { take (length out.old.items) out.new.items ≡ out.old.items }
 {
     let bytes = character.bytes();
-    let to = character.is_reverse();
-    add_rendition(from, to, out)?;
+    let to = character.ink();
+    add_ink(from, to, out)?;
     out.extend_from_slice(bytes)?;
     Ok(to)
 }
 
 // Adds the characters of a row to plain text, and makes text plain after them.
 fn add_text(row: &[Character], out: &mut Vec<u8>) -> Result<(), Memory>
-    ensures added { OnOk result (out.new.items ≡ out.old.items ++ text_bytes false row.now) }
+    ensures added { OnOk result (out.new.items ≡ out.old.items ++ text_bytes plain row.now) }
     ensures valid { OnOk result (AllByRecursion IsShown row.now) }
     ensures grows { take (length out.old.items) out.new.items ≡ out.old.items }
 {
-    let mut is_reverse = false;
+    let mut ink = Ink::PLAIN;
     for character in row {
-        is_reverse = add_character(is_reverse, character, out)?;
+        ink = add_character(ink, character, out)?;
     }
-    add_rendition(is_reverse, false, out)
+    add_ink(ink, Ink::PLAIN, out)
 }
 
 // Adds what paints a row.
@@ -86,9 +112,9 @@ fn add_row(at: u16, row: &[Character], out: &mut Vec<u8>) -> Result<(), Memory>
 }
 
 /// Adds the bytes that show a row of characters at a row of the terminal, counted from 0, with blanks after them: at
-/// most 20 and 8 for each character. They hold for each terminal that has this row, is as wide as the characters
-/// together, and shows each of them in its cells. All other rows stay, and text is plain afterwards. After an `Err`
-/// nothing is added.
+/// most 20, 4 for each character, and 20 for each whose ink isn't that of the one before it. They hold for each terminal
+/// that has this row, is as wide as the characters together, and shows each of them in its cells. All other rows stay,
+/// and text is plain afterwards. After an `Err` nothing is added.
 pub fn paint_row(at: u16, row: &[Character], out: &mut Vec<u8>) -> Result<(), Memory>
     ensures painted { OnOk result ((bytes : List ℕ) × (out.new.items ≡ out.old.items ++ bytes)
         × Paints bytes at row.now) }
@@ -119,9 +145,9 @@ fn add_rows(rows: &[Row], out: &mut Vec<u8>) -> Result<(), Memory>
     Ok(())
 }
 
-/// Adds the bytes that show rows, from the first row of the terminal on: at most 20 for each row and 8 for each
-/// character. They hold for each terminal that has as many rows, is as wide as each row, and shows each character in
-/// its cells. All further rows stay. It needs fewer than 65,536 rows. After an `Err` nothing is added.
+/// Adds the bytes that show rows, from the first row of the terminal on: at most those that [`paint_row`] adds for
+/// each. They hold for each terminal that has as many rows, is as wide as each row, and shows each character in its
+/// cells. All further rows stay. It needs fewer than 65,536 rows. After an `Err` nothing is added.
 pub fn paint_rows(rows: &[Row], out: &mut Vec<u8>) -> Result<(), Memory>
     requires { length rows.now < 65536 }
     ensures painted { OnOk result ((bytes : List ℕ) × (out.new.items ≡ out.old.items ++ bytes)
@@ -179,16 +205,33 @@ pub fn terminal_laws()
 mod tests {
     use super::{move_to, paint_row, paint_rows, set_cursor_shown};
     use crate::characters::{Character, Row};
+    use crate::inks::{Color, Ink};
     use std::alloc::Global;
     use tx_base::Memory;
 
-    // A letter, a wide and a narrow character in reverse, a letter.
+    // In reverse alone.
+    const REVERSE: Ink = Ink {
+        bold: false,
+        italic: false,
+        reverse: true,
+        color: None,
+    };
+
+    // All at once.
+    const WHOLE: Ink = Ink {
+        bold: true,
+        italic: true,
+        reverse: true,
+        color: Some(Color::Cyan),
+    };
+
+    // A plain letter, a wide and a narrow character in reverse, a letter with all that an ink has.
     fn mixed(alloc: Global) -> Result<Vec<Character>, Memory> {
         let mut row = Vec::new(alloc);
-        row.push(Character::new(b"a", 1, false).unwrap())?;
-        row.push(Character::new(b"\xe6\xbc\xa2", 2, true).unwrap())?;
-        row.push(Character::new(b"\xc3\xa9", 1, true).unwrap())?;
-        row.push(Character::new(b"z", 1, false).unwrap())?;
+        row.push(Character::new(b"a", 1, Ink::PLAIN).unwrap())?;
+        row.push(Character::new(b"\xe6\xbc\xa2", 2, REVERSE).unwrap())?;
+        row.push(Character::new(b"\xc3\xa9", 1, REVERSE).unwrap())?;
+        row.push(Character::new(b"z", 1, WHOLE).unwrap())?;
         Ok(row)
     }
 
@@ -203,7 +246,7 @@ mod tests {
     // Two rows, the first one empty, and the cursor in the last cell that can be named.
     fn two(alloc: Global) -> Result<Vec<u8>, Memory> {
         let mut characters = Vec::new(alloc);
-        characters.push(Character::new(b"x", 1, true).unwrap())?;
+        characters.push(Character::new(b"x", 1, REVERSE).unwrap())?;
         let mut rows = Vec::new(alloc);
         rows.push(Row::new(Vec::new(alloc)))?;
         rows.push(Row::new(characters))?;
@@ -221,13 +264,11 @@ mod tests {
     fn rows(rt: HostRuntime) {
         let painted = third(rt.alloc()).expect(&rt, "memory");
         assert!(rt;
-            painted.as_slice()
-                == b"\x1b[3;1H\x1b[m\x1b[2Ka\x1b[7m\xe6\xbc\xa2\xc3\xa9\x1b[mz".as_slice()
+            painted.starts_with(b"\x1b[3;1H\x1b[m\x1b[2Ka\x1b[m\x1b[7m\xe6\xbc\xa2\xc3\xa9")
         );
+        assert!(rt; painted.ends_with(b"\xc3\xa9\x1b[m\x1b[1m\x1b[3m\x1b[7m\x1b[36mz\x1b[m"));
         let painted = two(rt.alloc()).expect(&rt, "memory");
-        assert!(rt;
-            painted.starts_with(b"\x1b[?25l\x1b[1;1H\x1b[m\x1b[2K\x1b[2;1H\x1b[m\x1b[2K\x1b[7mx")
-        );
-        assert!(rt; painted.ends_with(b"\x1b[7mx\x1b[m\x1b[65536;10H\x1b[?25h"));
+        assert!(rt; painted.starts_with(b"\x1b[?25l\x1b[1;1H\x1b[m\x1b[2K\x1b[2;1H\x1b[m\x1b[2K"));
+        assert!(rt; painted.ends_with(b"\x1b[m\x1b[7mx\x1b[m\x1b[65536;10H\x1b[?25h"));
     }
 }
