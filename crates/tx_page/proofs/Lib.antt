@@ -1,0 +1,4 @@
+pub mod Encoding
+pub mod Firsts
+pub mod Widths
+pub mod Fitting

@@ -1,0 +1,4 @@
+pub mod Inks
+pub mod Clusters
+pub mod Lines
+pub mod Texts
