@@ -1,0 +1,5 @@
+mod Ends
+mod Lengths
+mod Growing
+mod Told
+mod Pasted

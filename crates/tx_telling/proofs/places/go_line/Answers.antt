@@ -1,0 +1,23 @@
+use Rattle.std.proofs.Common.{arith, ℕ, ◌≤◌, ◌<◌, [], ◌∷◌, ◌++◌, get_or, length, ◌≡◌, sym, ap, subst, ◌∙◌}
+use Rattle.std.specs.Prelude.{codes}
+use Rattle.std.specs.List.{AllByRecursion}
+use Rattle.std.proofs.lemmas.List.Elements.{All-from_get_or, recursion_from_All}
+use Rattle.tx_tree.specs.PathSpelling.{place_text}
+use Rattle.tx_cmd.specs.declared.command.Command.TheVariants.{Go}
+use Rattle.tx_telling.specs.Lines.{IsScriptLine}
+use Rattle.tx_telling.proofs.Told.{go_path}
+use Rattle.tx_telling.proofs.places.go_line.Goals as goal
+
+pub returns : goal.returns
+returns c =
+    let path = c.args.at.now.path in
+    let offset = c.args.at.now.offset in
+    let each : (i : ℕ) → i < length path → get_or path i 0 ≤ 4294967295 = λ i lt. grind arith in
+    let fit : AllByRecursion (λ n. n ≤ 4294967295) path =
+    recursion_from_All (λ n. n ≤ 4294967295) path (All-from_get_or (λ n. n ≤ 4294967295) path 0 each) in
+    let few : length path < 400 = omega (arith, ap length c.steps-numbers.ensures) in
+    let spelled = c.path_law.ensures.place path offset few fit (omega arith) in
+    let is : c.into_bytes.result.items ≡ codes "go " ++ place_text path offset =
+    ap (λ v. v.items) c.into_bytes.ensures.value ∙ c.in_ok-format.ensures.ok in
+    subst (λ line. IsScriptLine line (Go (path ++ offset ∷ []))) (sym is)
+    (go_path (place_text path offset) (path ++ offset ∷ []) spelled)
