@@ -26,7 +26,7 @@ use Rattle.tx_moves.proofs.Parted.{IsParted, parted}
 use Rattle.tx_moves.proofs.Stopping.{IsLaid, all_laid}
 
 -- no line reaches beyond the page
-abbrev Narrow : ℕ → Line → Type 0
+abbrev pub Narrow : ℕ → Line → Type 0
 Narrow width line = line.indent + cells_across line.items ≤ width
 
 abbrev pub OnPage : Type 0
@@ -192,7 +192,7 @@ lines_narrow page width (p ∷ ps) lines h =
     (All-append (Narrow width) parts.own parts.others (page p width parts.own parts.shape)
     (lines_narrow page width ps parts.others parts.behind))
 
-units_narrow : OnPage → (width : ℕ) (xs : List UnitView) → AllByRecursion (IsLaid width) xs
+pub units_narrow : OnPage → (width : ℕ) (xs : List UnitView) → AllByRecursion (IsLaid width) xs
     → AllByRecursion (λ x. All (Narrow width) x.lines) xs
 units_narrow page width [] h = tt
 units_narrow page width (x ∷ xs) h =

@@ -1,9 +1,9 @@
 mod Numbering
 mod Finding
-mod Covering
-mod Seeing
+pub mod Covering
+pub mod Seeing
 mod Beyond
 mod Parted
 mod OnLines
-mod Stopping
-mod Bounding
+pub mod Stopping
+pub mod Bounding

@@ -17,7 +17,7 @@ use Rattle.tx_view_form.specs.Cells.{items_before, item_number, item_at, drawn_i
 use Rattle.tx_view_form.specs.Positions.{Mark, mark_of, marks_of, items_on, place_by, place_on, start_of}
 use Rattle.tx_view.specs.InUnits.{drawn_under}
 
-cells_under : (b : List ℕ) (i : Item) → item_cells (item_under b i) ≡ item_cells i
+pub cells_under : (b : List ℕ) (i : Item) → item_cells (item_under b i) ≡ item_cells i
 cells_under b (Glyph d) = refl
 cells_under b (Space d) = refl
 cells_under b (Chance d) = refl

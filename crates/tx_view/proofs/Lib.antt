@@ -5,6 +5,11 @@ pub mod Reading
 pub mod NearPlaces
 pub mod Numbering
 pub mod UnitRows
+pub mod EndsUnder
+pub mod EndsFound
+pub mod RowAlone
+pub mod StopAlone
+pub mod Fitting
 pub mod Stopping
 pub mod Taking
 pub mod Few

@@ -1,6 +1,6 @@
 -- The lines of a unit above and below one of a stretch, and the place at a column of it.
 use Rattle.std.proofs.Common.{◌≡◌, ℕ, zero, suc, ◌+◌, ◌<◌, List, [], ◌∷◌, ◌++◌, length, take, drop, refl, sym, ap, ap₂}
-use Rattle.std.proofs.Common.{◌∙◌, arith}
+use Rattle.std.proofs.Common.{◌∙◌, subst, get_or, arith}
 use Rattle.std.specs.Prelude.{Some, slice_get}
 use Rattle.std.specs.List.{flat_map}
 use Rattle.std.specs.Option.{option_map, option_map_or}
@@ -8,7 +8,7 @@ use Rattle.std.proofs.Math.Seq.{take-append-add, drop-append-add}
 use Rattle.std.proofs.lemmas.List.{take-append-drop, take-append-le, drop-append-le, drop_more}
 use Rattle.std.proofs.lemmas.List.{length-map}
 use Rattle.std.proofs.lemmas.List.Concat.{flat_map-append}
-use Rattle.std.proofs.lemmas.Option.{slice_get_within, get_or_from_slice_get}
+use Rattle.std.proofs.lemmas.Option.{slice_get_within, slice_get-get_or, get_or_from_slice_get}
 use Rattle.tx_tree.specs.declared.places.Place.{Place}
 use Rattle.tx_layout.specs.declared.layout.Line.{Line}
 use Rattle.tx_part_layout.specs.LinesUnder.{line_under}
@@ -84,3 +84,16 @@ module _ (x : Shown) (row : ℕ) (r : ℕ × ℕ) (h : IsLineOf x row r) where
       ∙ ap (option_map (λ l. spot_place (place_on path (lines_above x r.0 r.1) l (lines_below x r.0 r.1) column)))
       (h.is ∙ ap (option_map (line_under h.stretch.part)) line.1)
       ∙ ap Some (sym (told h.stretch line.0 h.there line.1))
+
+  -- the line itself
+  pub line_there : (w : WideStretch) (d : Line) → slice_get (stretches x) r.0 ≡ Some w
+      → slice_get (unit_view x).lines row ≡ Some (line_under w.part (get_or w.lines r.1 d))
+  line_there w d at =
+      let same : h.stretch ≡ w = cc in
+      h.is ∙ ap (option_map (line_under h.stretch.part)) (slice_get-get_or h.stretch.lines r.1 d h.within)
+      ∙ ap (λ (s : WideStretch). Some (line_under s.part (get_or s.lines r.1 d))) same
+
+  pub line_within : (w : WideStretch) → slice_get (stretches x) r.0 ≡ Some w → r.1 < length w.lines
+  line_within w at =
+      let same : h.stretch ≡ w = cc in
+      subst (λ (s : WideStretch). r.1 < length s.lines) same h.within

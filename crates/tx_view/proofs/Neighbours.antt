@@ -120,7 +120,7 @@ all_apart us (v ∷ vs) h =
     all_both (λ q. list_any (same_place q) (stops_of us) ≡ false) (unit_stops v) (flat_map unit_stops vs)
     (each_apart us v (unit_stops v) h.0 (unit_below v)) (all_apart us vs h.1)
 
-all_parts : {X : Type 0} (R : X → Type 0) (xs ys : List X) → AllByRecursion R (xs ++ ys)
+pub all_parts : {X : Type 0} (R : X → Type 0) (xs ys : List X) → AllByRecursion R (xs ++ ys)
     → AllByRecursion R xs × AllByRecursion R ys
 all_parts R [] ys h = (tt, h)
 all_parts R (x ∷ xs) ys h = let parts = all_parts R xs ys h.1 in ((h.0, parts.0), parts.1)

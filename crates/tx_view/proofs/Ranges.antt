@@ -220,17 +220,17 @@ module _ (xs : List Shown) (at : Place) (k from n : ℕ) where
 abbrev above : Place → Shown → Bool
 above at x = is_above x.path at
 
-none_of_shown : (at : Place) (xs : List Shown) → list_any (above at) xs ≡ false
-    → list_any (same_place at) (shown_stops xs) ≡ false
-none_of_shown at xs e = none_above at (unit_views xs) (by xs ∙ e)
-  where
-    by : (ys : List Shown) → list_any (λ u. is_above u.path at) (unit_views ys) ≡ list_any (above at) ys
-    by [] = refl
-    by (y ∷ ys) = ap (λ b. above at y || b) (by ys)
+any_above : (at : Place) (xs : List Shown) → list_any (λ u. is_above u.path at) (unit_views xs) ≡ list_any (above at) xs
+any_above at [] = refl
+any_above at (x ∷ xs) = ap (λ b. above at x || b) (any_above at xs)
+
+pub above_nowhere : (xs : List Shown) (at : Place) → position (above at) xs ≡ None
+    → list_any (λ u. is_above u.path at) (unit_views xs) ≡ false
+above_nowhere xs at e = any_above at xs ∙ not_among (above at) xs e
 
 pub held_nowhere : (xs : List Shown) (at : Place) → position (above at) xs ≡ None
     → list_any (same_place at) (shown_stops xs) ≡ false
-held_nowhere xs at e = none_of_shown at xs (not_among (above at) xs e)
+held_nowhere xs at e = none_above at (unit_views xs) (above_nowhere xs at e)
 
 none_before : {X : Type 0} (p : X → Bool) (xs : List X) (k : ℕ) → ((j : ℕ) (d : X) → j < k → p (get_or xs j d) ≡ false)
     → k ≤ length xs → list_any p (take k xs) ≡ false
@@ -259,14 +259,14 @@ module _ (xs : List Shown) (at : Place) (k : ℕ) (apart : AreAllApart (unit_vie
   within : k < length xs
   within = (position-Some (above at) xs k any_unit found).0
 
-  no_stop_before : list_any (same_place at) (shown_stops (take k xs)) ≡ false
-  no_stop_before =
-      none_of_shown at (take k xs)
-      (none_before (above at) xs k (λ j e lt. (position-Some (above at) xs k e found).2 j lt)
-      (omega (arith, within)))
+  pub none_above_before : list_any (λ u. is_above u.path at) (unit_views (take k xs)) ≡ false
+  none_above_before =
+      any_above at (take k xs)
+      ∙ none_before (above at) xs k (λ j e lt. (position-Some (above at) xs k e found).2 j lt)
+      (omega (arith, within))
 
-  no_stop_behind : list_any (same_place at) (shown_stops (drop (k + 1) xs)) ≡ false
-  no_stop_behind =
+  pub none_above_behind : list_any (λ u. is_above u.path at) (unit_views (drop (k + 1) xs)) ≡ false
+  none_above_behind =
       let x : Shown = get_or xs k any_unit in
       let split : drop k xs ≡ x ∷ drop (k + 1) xs = drop_more xs k any_unit within in
       let from_k : AreAllApart (unit_views (drop k xs)) =
@@ -274,9 +274,14 @@ module _ (xs : List Shown) (at : Place) (k : ℕ) (apart : AreAllApart (unit_vie
       (subst (λ (ys : List Shown). AreAllApart (unit_views ys)) (sym (take-append-drop k xs)) apart) in
       let later : AreAllApart (unit_views (x ∷ drop (k + 1) xs)) =
       subst (λ (ys : List Shown). AreAllApart (unit_views ys)) split from_k in
-      none_above at (unit_views (drop (k + 1) xs))
-      (none_else at (unit_view x) (unit_views (drop (k + 1) xs)) later.0
-      (position-Some (above at) xs k any_unit found).1)
+      none_else at (unit_view x) (unit_views (drop (k + 1) xs)) later.0
+      (position-Some (above at) xs k any_unit found).1
+
+  no_stop_before : list_any (same_place at) (shown_stops (take k xs)) ≡ false
+  no_stop_before = none_above at (unit_views (take k xs)) none_above_before
+
+  no_stop_behind : list_any (same_place at) (shown_stops (drop (k + 1) xs)) ≡ false
+  no_stop_behind = none_above at (unit_views (drop (k + 1) xs)) none_above_behind
 
   pub held_here : list_any (same_place at) (shown_stops (take 1 (drop k xs))) ≡ true → HasStop xs at k
   held_here e = record {

@@ -64,10 +64,10 @@ abbrev pub AreAllOrNone : Inside → List Shown → Type 0
 AreAllOrNone v xs =
     AreAllOrNoneLaid v.bridges.parts (laid_parts_in xs) (kept_strays v.bridges.strays) (map laid_at v.strays)
 
-pub stale : (v : Inside) → IsSized v → v.fresh ≡ false → v.units.items ≡ [] → v.paged.rows.items ≡ 0 ∷ []
-    → v.paged.errors.items ≡ 0 ∷ [] → AreLaid v.width v.bridges.kept v.bridges.parts v.hidden.items
+pub stale : (v : Inside) → IsSized v → v.fresh ≡ false → v.units.items ≡ [] → v.paged.pages.items ≡ []
+    → v.paged.rows.items ≡ 0 ∷ [] → v.paged.errors.items ≡ 0 ∷ [] → AreLaid v.width v.bridges.kept v.bridges.parts v.hidden.items
     → AllReadable v.hidden.items → AreAside v → AreAllOrNone v v.hidden.items → IsLeft v → IsKept v
-stale v sized off none rows errors laid reads aside alike left =
+stale v sized off none pages rows errors laid reads aside alike left =
     let all : v.hidden.items ≡ all_of v = ap (λ b. if b then v.units.items else v.hidden.items) (sym off) in
     record {
       some = sized.some;
@@ -80,6 +80,7 @@ stale v sized off none rows errors laid reads aside alike left =
       row_parts = λ on. absurd (let both : true ≡ false = sym on ∙ off in cc);
       kept = λ on. absurd (let both : true ≡ false = sym on ∙ off in cc);
       hidden = λ is. none;
+      no_pages = λ is. pages;
       of_buffers = sized.of_buffers;
       laid = subst (AreLaid v.width v.bridges.kept v.bridges.parts) all laid;
       all_readable = subst AllReadable all reads;
@@ -194,6 +195,7 @@ standing v sized on shown rows paged stores apart laid reads below aside alike n
           ap (λ xs. stores_with v.bridges.kept v.bridges.parts (laid_in xs) (laid_parts_in xs)
           (kept_strays v.bridges.strays) (map laid_at v.strays)) (sym all) ∙ stores;
       hidden = λ off. absurd (let both : true ≡ false = sym on ∙ off in cc);
+      no_pages = λ off. absurd (let both : true ≡ false = sym on ∙ off in cc);
       of_buffers = sized.of_buffers;
       laid = subst (AreLaid v.width v.bridges.kept v.bridges.parts) all laid;
       all_readable = subst AllReadable all reads;

@@ -12,4 +12,5 @@ pub mod Near
 pub mod Rows
 pub mod RowParts
 pub mod InUnits
+pub mod Ends
 pub mod WholeViews

@@ -78,6 +78,7 @@ pub record IsKept (v : Inside) : Type 0 where
       → AreRowParts v.width beginning (units v.buffers.items) (whole_of v).shown.units (whole_of v).row_parts
   pub kept : v.fresh ≡ true → view_stores_of v ≡ Fresh v.buffers.items
   pub hidden : v.fresh ≡ false → v.units.items ≡ []
+  pub no_pages : v.fresh ≡ false → v.paged.pages.items ≡ []
   pub of_buffers : units_of v.bridges.kept ≡ units v.buffers.items
   pub laid : AreLaid v.width v.bridges.kept v.bridges.parts (all_of v)
   pub all_readable : All IsReadable (all_of v)

@@ -35,8 +35,8 @@ fn is_above(unit: &Shown, at: &Place) -> bool
     }
 }
 
-// The number of the first unit whose path begins that of a place.
-fn unit_above(units: &[Shown], at: &Place) -> Option<usize>
+/// The number of the first unit whose path begins that of a place.
+pub(crate) fn unit_above(units: &[Shown], at: &Place) -> Option<usize>
     ensures number { result ≡ position (λ x. is_above x.path at.now) units.now }
     ensures within { IfSome result (λ k. k < length units.now) }
 {

@@ -3,6 +3,7 @@ ghost use Rattle.std.specs.Prelude.{◌≡◌, ◌≤◌, ◌<◌, ◌^◌, [], 
 ghost use Rattle.tx_view_form.specs.Views.{lines_of};
 ghost use Rattle.tx_view_form.specs.Errors.{errors_of};
 ghost use Rattle.tx_layout.specs.Paging.{PagesFrom};
+ghost use Rattle.tx_moves.specs.PageNumbers.{page_of};
 ghost use Rattle.tx_view.specs.Units.{unit_views, IsBelow};
 ghost use Rattle.tx_view.specs.Lone.{IsPaged};
 
@@ -70,4 +71,15 @@ pub(crate) fn all_paged(alloc: Global, units: &[Shown], height: u32) -> Result<P
         rows: first_rows(alloc, units)?,
         errors: first_errors(alloc, units)?,
     })
+}
+
+/// The number of the page of a row, from 0.
+pub(crate) fn page_of(pages: &[Cut], r: u32) -> Option<u32>
+    requires { length pages.now < 2 ^ 32 }
+    ensures { result ≡ page_of pages.now r }
+{
+    match tx_moves::page_of(pages, r) {
+        None => None,
+        Some(number) => Some(number as u32),
+    }
 }

@@ -32,15 +32,15 @@ pub(crate) fn base_of<'a>(path: &'a Path, part: Option<&'a Path>) -> Base<'a>
     }
 }
 
-// Where a cluster of a unit with this path begins.
-fn start_of<'a>(path: &'a Path, mark: &Mark<'a>) -> Spot<'a>
+/// Where a cluster of a unit with this path begins.
+pub(crate) fn start_of<'a>(path: &'a Path, mark: &Mark<'a>) -> Spot<'a>
     ensures { spot_place result ≡ spot_place (start_of path.now mark.now) }
 {
     Spot::behind(base_of(path, mark.part), Some(mark.origin), mark.start)
 }
 
-// Where a cluster of a unit with this path ends.
-fn stop_of<'a>(path: &'a Path, mark: &Mark<'a>) -> Spot<'a>
+/// Where a cluster of a unit with this path ends.
+pub(crate) fn stop_of<'a>(path: &'a Path, mark: &Mark<'a>) -> Spot<'a>
     ensures { spot_place result ≡ spot_place (stop_of path.now mark.now) }
 {
     Spot::behind(base_of(path, mark.part), Some(mark.origin), mark.stop)
@@ -80,8 +80,8 @@ fn nearest<'a>(
     Spot::new(path, None, 0)
 }
 
-// The mark of the item of a line of this part that covers a column.
-fn covering<'a>(part: Option<&'a Path>, line: &'a Line, column: u32) -> Option<Mark<'a>>
+/// The mark of the item of a line of this part that covers a column.
+pub(crate) fn covering<'a>(part: Option<&'a Path>, line: &'a Line, column: u32) -> Option<Mark<'a>>
     requires { All IsShort line.now.items }
     ensures { result ≡ option_and_then mark_of
         (option_map (item_under (part_or_root (option_copied part.entry))) (item_at line.now column)) }

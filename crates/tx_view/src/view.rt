@@ -14,6 +14,9 @@ ghost use Rattle.tx_view_form.specs.Errors.{errors_of};
 ghost use Rattle.tx_view_form.specs.Cells.{drawn_at, row_in};
 ghost use Rattle.tx_view_form.specs.Positions.{position_in};
 ghost use Rattle.tx_view_form.specs.Stops.{stops_of};
+ghost use Rattle.tx_moves.specs.PageNumbers.{page_of};
+ghost use Rattle.tx_moves.specs.RowStops.{stop_on};
+ghost use Rattle.tx_moves.specs.Rows.{row_of};
 ghost use Rattle.tx_view.specs.Near.{AreNear};
 ghost use Rattle.tx_view.specs.Units.{unit_views};
 ghost use Rattle.tx_unit_layout.specs.Views.{IsReadable};
@@ -33,7 +36,8 @@ use crate::carrying::{blanks, carried, move_shown};
 use crate::cells::drawn_at;
 use crate::evaluating::forget_all_parts;
 use crate::lone::{Lone, lone_of};
-use crate::paging::{Pagination, all_paged, nothing_paged};
+use crate::moves::{row_of, stop_on};
+use crate::paging::{Pagination, all_paged, nothing_paged, page_of};
 use crate::places::{base_of, place_in};
 use crate::refreshing::lay_out;
 use crate::searching::{error_count, error_in, row_count, row_in};
@@ -46,7 +50,7 @@ use tx_base::{Memory, Steps};
 use tx_bridge::{Bridges, unit_list_laws};
 use tx_doc::{Buffer, share_buffers};
 use tx_items::{Drawn, ErrorAt};
-use tx_layout::Line;
+use tx_layout::{Line, within_page};
 use tx_lines::Cut;
 use tx_mod::Mod;
 use tx_origin::{Base, Spot};
@@ -443,6 +447,38 @@ impl View {
         let shown = &self.units[unit];
         let path = shown.path.as_ref()?;
         Some(place_in(path, shown, number, c))
+    }
+
+    /// The row and the column at which a place is drawn. They are those of the first cluster that begins there, else
+    /// the column after the first that ends there, else the indent of the first row of the unit, where it has no
+    /// cluster with a place on a row. The column is at most the width of a page. None where the place isn't drawn. Of
+    /// units other than that of the place only the paths are looked at.
+    pub fn row_of(&self, at: &Place) -> Option<(u32, u32)>
+        ensures { result ≡ row_of self.now.shown.units at.now }
+    {
+        within_page();
+        let _count = self.rows();
+        row_of(&self.units, &self.paged.rows, at)
+    }
+
+    /// The place on row r to which a vertical move goes that keeps column `goal`: the start of the cluster that covers
+    /// the column, else the end of the last cluster before it on the row, else the start of the first. Where that end is
+    /// drawn on a later row, it is the start of that last cluster. None past the last row, and where no cluster of the
+    /// row has a place. The one error is `Memory`.
+    pub fn stop_on(&self, alloc: Global, r: u32, goal: u32) -> Result<Option<Place>, Memory>
+        ensures { IfOk result (λ at. at ≡ stop_on self.now.shown.units r goal) }
+    {
+        within_page();
+        let _count = self.rows();
+        stop_on(alloc, &self.units, &self.paged.rows, r, goal)
+    }
+
+    /// The number of the page that row r is on, from 0, or None past the last row.
+    pub fn page_of(&self, r: u32) -> Option<u32>
+        ensures { result ≡ page_of self.now.shown.pages r }
+    {
+        let _count = self.rows();
+        page_of(&self.paged.pages, r)
     }
 
     /// The places at which a cursor stops, of equal ones the first.

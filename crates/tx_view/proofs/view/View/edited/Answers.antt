@@ -73,6 +73,7 @@ invariant_of-self-2 g c =
       most_height = c.self.invariant.most_height;
       of_buffers = c.in_ok-after.ensures.units ∙ ap units (sym c.in_ok-after.ensures.buffers);
     }) refl c.clear.ensures.items
+    (ap (λ (p : Pagination). p.pages.items) c.replace-paged.ensures.after ∙ c.in_ok-nothing.ensures.pages)
     (ap (λ (p : Pagination). p.rows.items) c.replace-paged.ensures.after ∙ c.in_ok-nothing.ensures.rows)
     (ap (λ (p : Pagination). p.errors.items) c.replace-paged.ensures.after ∙ c.in_ok-nothing.ensures.errors)
     on.laid_out on.readable

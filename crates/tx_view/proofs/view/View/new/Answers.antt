@@ -29,7 +29,8 @@ invariant_of-result g c =
       most_height = c.requires.most_height;
       of_buffers =
           c.in_ok-start.ensures.units ∙ c.in_ok-made.ensures.units ∙ ap units (sym c.in_ok-share_buffers.ensures);
-    }) refl c.new.ensures.items c.in_ok-nothing_paged.ensures.rows c.in_ok-nothing_paged.ensures.errors
+    }) refl c.new.ensures.items c.in_ok-nothing_paged.ensures.pages c.in_ok-nothing_paged.ensures.rows
+    c.in_ok-nothing_paged.ensures.errors
     (subst (λ (es : Kept). AreLaid c.args.width es c.in_ok-start.field-0.parts xs)
     (sym (c.in_ok-start.ensures.empty ∙ empty_is us))
     (subst (λ (pss : List KeptParts). AreLaid c.args.width (nothing_kept us) pss xs)

@@ -47,7 +47,7 @@ invariant_of-self g c =
       least_height = c.self.invariant.least_height;
       most_height = c.self.invariant.most_height;
       of_buffers = c.in_err-paged.ensures.of_buffers ∙ ap units same;
-    }) c.if-self.false none
+    }) c.if-self.false none (c.self.invariant.no_pages c.if-self.false)
     (c.self.invariant.rows ∙ ap (λ xs. sums_from 0 (row_counts (unit_views xs))) none)
     (c.self.invariant.errors ∙ ap (λ xs. sums_from 0 (error_counts (unit_views xs))) none)
     (subst (λ (xs : List Shown). AreLaid c.self.inside.width c.made_anew.new.bridges.kept
