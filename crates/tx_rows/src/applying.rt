@@ -1,11 +1,10 @@
 // Modifications of trees: what they make, what takes them back, and where places and paths go.
-use crate::report::{push_number, push_text};
-use crate::row::Row;
 use std::alloc::Global;
 use std::sync::ledger::Ledger;
 use tx_base::Steps;
 use tx_cmd::Command;
 use tx_mod::{ApplyFault, Mod, ModFault, applicable, apply_and_inverse, carried, moved};
+use tx_row_files::{Row, push_number, push_text};
 use tx_tree::{Path, Place, Tree};
 
 // The bytes before the first newline, and those after it.

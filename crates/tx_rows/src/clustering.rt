@@ -1,8 +1,8 @@
 // The clusters of texts.
-use crate::report::{push_number, push_text};
 use std::alloc::Global;
 use std::sync::ledger::Ledger;
 use tx_base::Steps;
+use tx_row_files::{push_number, push_text};
 use tx_text::{Cluster, clusters};
 
 // Appends a cluster's characters in quotes, its cells, and the place and the number of its bytes in the text.

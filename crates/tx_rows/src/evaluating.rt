@@ -1,6 +1,4 @@
 // What trees evaluate to.
-use crate::report::{push_number, push_text};
-use crate::row::Row;
 use std::alloc::Global;
 use std::str;
 use std::sync::ledger::Ledger;
@@ -8,6 +6,7 @@ use tx_base::Steps;
 use tx_env::{Env, Writes};
 use tx_exec::{Looks, Outcome, Trace, eval};
 use tx_origin::{Ip, Tagged, Value};
+use tx_row_files::{Row, push_number, push_text};
 use tx_tree::{Text, Tree};
 
 // The steps that an evaluation may take.

@@ -1,8 +1,7 @@
 // What the words of a command line ask for.
-use crate::report::{push_number, push_text};
-use crate::running::command_words;
 use std::alloc::Global;
 use std::str;
+use tx_row_files::{command_words, push_number, push_text};
 use tx_words::{FileWord, Source, Words, WordsFault, read_words};
 
 // Appends a number after a space.

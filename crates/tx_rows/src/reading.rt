@@ -1,9 +1,9 @@
 // What bytes in one of the two syntaxes spell.
-use crate::report::{push_number, push_text};
 use std::alloc::Global;
 use std::sync::ledger::Ledger;
 use tx_base::Steps;
 use tx_doc::Form;
+use tx_row_files::{push_number, push_text};
 use tx_tree::{ReadFault, Tree, Which};
 
 // The words of a fault, and the number that comes last.

@@ -1,10 +1,9 @@
 // Whole runs of the editor over files in memory.
-use crate::report::{push_number, push_text};
-use crate::row::{Row, push_saved};
 use std::alloc::Global;
 use std::sync::ledger::Ledger;
 use tx_base::Steps;
-use tx_outside::{MemSink, MemSource, MemStore, Store, StoredFile};
+use tx_outside::{MemSink, MemSource, MemStore};
+use tx_row_files::{Row, command_words, push_files, push_number, push_text, store_of};
 use tx_session::{Status, run};
 
 // The most bytes that a run writes.
@@ -17,26 +16,6 @@ struct World {
     store: MemStore,
     input: MemSource,
     out: MemSink,
-}
-
-// The words of a command line, of which the first is the program's name; `""` is an empty one.
-pub(crate) fn command_words(alloc: Global, words: &str) -> Option<Vec<String>> {
-    let mut all = Vec::new(alloc);
-    all.push(String::from_str(alloc, "tmx").ok()?).ok()?;
-    for word in words.split_whitespace() {
-        let word = if word == "\"\"" { "" } else { word };
-        all.push(String::from_str(alloc, word).ok()?).ok()?;
-    }
-    Some(all)
-}
-
-// A store of the files. Of two with one name it has the later one.
-fn store_of(alloc: Global, files: &[StoredFile]) -> Option<MemStore> {
-    let mut store = MemStore::new(Vec::new(alloc), Vec::new(alloc));
-    for file in files {
-        store.save(file.name(), file.bytes()).ok()?;
-    }
-    Some(store)
 }
 
 fn world_of(alloc: Global, words: &str, row: &Row) -> Option<World> {
@@ -57,23 +36,6 @@ fn status_of<L: Ledger>(alloc: Global, world: &mut World, steps: &mut Steps<L>) 
         out,
     } = world;
     run(alloc, words, store, input, out, steps)
-}
-
-// Appends a line with the file's name, and its bytes, or `none`.
-fn push_file(store: &MemStore, name: &[u8], out: &mut Vec<u8>) -> Option<()> {
-    push_saved(name, out)?;
-    push_text("\n", out)?;
-    match store.file(name) {
-        Some(bytes) => out.extend_from_slice(bytes).ok(),
-        None => push_text("none\n", out),
-    }
-}
-
-fn push_files(store: &MemStore, names: &[Vec<u8>], out: &mut Vec<u8>) -> Option<()> {
-    for name in names {
-        push_file(store, name, out)?;
-    }
-    Some(())
 }
 
 // Runs, and appends what the run writes, and its status where that isn't 0.

@@ -1,8 +1,8 @@
 // Trees as TM text.
-use crate::report::push_text;
 use std::alloc::Global;
 use std::sync::ledger::Ledger;
 use tx_base::Steps;
+use tx_row_files::push_text;
 use tx_tm_write::is_block;
 
 // Appends the canonical TM text of the tree that the bytes spell in the Scheme syntax, or the editor's reply where that

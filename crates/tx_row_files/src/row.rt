@@ -1,12 +1,13 @@
 // A row, as far as it is read.
 use crate::escapes::push_unescaped;
 use crate::lines::{Mark, Spelling};
+use crate::report::push_text;
 use std::alloc::Global;
-use tx_outside::StoredFile;
+use tx_outside::{MemStore, Store, StoredFile};
 
 // The lines of one mark: their bytes, with newlines between them, and where in the file each line begins.
 #[derive(Drop)]
-pub(crate) struct Lines {
+pub struct Lines {
     pub bytes: Vec<u8>,
     pub numbers: Vec<usize>,
 }
@@ -64,7 +65,7 @@ impl Lines {
 
 // A row, as far as it is read.
 #[derive(Drop)]
-pub(crate) struct Row {
+pub struct Row {
     // The files that are read as a whole.
     pub files: Vec<StoredFile>,
     // The name of the file whose lines are being read; empty where there is none.
@@ -152,7 +153,45 @@ impl Row {
 }
 
 // Appends the line, without its newline, that comes before the bytes of a saved file.
-pub(crate) fn push_saved(name: &[u8], out: &mut Vec<u8>) -> Option<()> {
+pub fn push_saved(name: &[u8], out: &mut Vec<u8>) -> Option<()> {
     out.extend_from_slice(b"saved ").ok()?;
     out.extend_from_slice(name).ok()
+}
+
+/// The words of a command line, of which the first is the program's name; `""` is an empty one.
+pub fn command_words(alloc: Global, words: &str) -> Option<Vec<String>> {
+    let mut all = Vec::new(alloc);
+    all.push(String::from_str(alloc, "tmx").ok()?).ok()?;
+    for word in words.split_whitespace() {
+        let word = if word == "\"\"" { "" } else { word };
+        all.push(String::from_str(alloc, word).ok()?).ok()?;
+    }
+    Some(all)
+}
+
+/// A store of the files. Of two with one name it has the later one.
+pub fn store_of(alloc: Global, files: &[StoredFile]) -> Option<MemStore> {
+    let mut store = MemStore::new(Vec::new(alloc), Vec::new(alloc));
+    for file in files {
+        store.save(file.name(), file.bytes()).ok()?;
+    }
+    Some(store)
+}
+
+// Appends a line with the file's name, and its bytes, or `none`.
+fn push_file(store: &MemStore, name: &[u8], out: &mut Vec<u8>) -> Option<()> {
+    push_saved(name, out)?;
+    push_text("\n", out)?;
+    match store.file(name) {
+        Some(bytes) => out.extend_from_slice(bytes).ok(),
+        None => push_text("none\n", out),
+    }
+}
+
+/// Appends for each name a line with it, and the bytes of the file of this name, or `none`.
+pub fn push_files(store: &MemStore, names: &[Vec<u8>], out: &mut Vec<u8>) -> Option<()> {
+    for name in names {
+        push_file(store, name, out)?;
+    }
+    Some(())
 }

@@ -45,7 +45,7 @@ fn take(escape: Escape, byte: u8, out: &mut Vec<u8>) -> Option<Escape> {
 }
 
 // Appends the bytes that the text stands for. None where it has a faulty escape, or where memory runs out.
-pub(crate) fn push_unescaped(text: &str, out: &mut Vec<u8>) -> Option<()> {
+pub fn push_unescaped(text: &str, out: &mut Vec<u8>) -> Option<()> {
     let mut escape = Escape::None;
     for byte in text.as_bytes() {
         escape = take(escape, *byte, out)?;
@@ -57,7 +57,7 @@ pub(crate) fn push_unescaped(text: &str, out: &mut Vec<u8>) -> Option<()> {
 }
 
 // Appends a byte as the report shows it: a visible byte or a space as it is, any other as an escape.
-pub(crate) fn push_visible(byte: u8, out: &mut Vec<u8>) -> Option<()> {
+pub fn push_visible(byte: u8, out: &mut Vec<u8>) -> Option<()> {
     const DIGITS: &[u8; 16] = b"0123456789abcdef";
     if byte >= b' ' && byte < 127 {
         return out.push(byte).ok();

@@ -2,7 +2,7 @@
 
 // The mark that begins a line: `|` for what there is before, `>` for what is asked, `<` for what is wanted.
 #[derive(Clone, Copy, PartialEq, Eq)]
-pub(crate) enum Mark {
+pub enum Mark {
     Given,
     Asked,
     Wanted,
@@ -10,7 +10,7 @@ pub(crate) enum Mark {
 
 // How a line spells its text: as it is, with escapes, or with escapes and so many times, joined to the line before.
 #[derive(Clone, Copy)]
-pub(crate) enum Spelling {
+pub enum Spelling {
     Plain,
     Escaped,
     Repeated(u32),
@@ -18,7 +18,7 @@ pub(crate) enum Spelling {
 
 // A line: an empty one, a comment, a text, a word with what follows it, or none of these.
 #[derive(Clone, Copy)]
-pub(crate) enum Line<'a> {
+pub enum Line<'a> {
     Empty,
     Comment,
     Text(Mark, &'a str, Spelling),
@@ -62,7 +62,7 @@ fn head_line<'a>(line: &'a str) -> Line<'a> {
     }
 }
 
-pub(crate) fn line_of<'a>(line: &'a str) -> Line<'a> {
+pub fn line_of<'a>(line: &'a str) -> Line<'a> {
     if line.is_empty() {
         return Line::Empty;
     }

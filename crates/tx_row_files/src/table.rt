@@ -1,5 +1,5 @@
 // A file of rows.
-use crate::kinds::{Kind, kind_of, push_answer};
+use crate::kind::RowKind;
 use crate::lines::{Line, Mark, Spelling, line_of};
 use crate::report::{line_of_difference, push_line, push_number, push_text};
 use crate::row::Row;
@@ -10,18 +10,18 @@ use tx_base::Steps;
 
 // How many rows there are, and how many of them differ.
 #[derive(Clone, Copy)]
-pub(crate) struct Counts {
+pub struct Counts {
     pub rows: usize,
     pub differ: usize,
 }
 
 // A file of rows, as far as it is read.
 #[derive(Drop)]
-struct Table<'a> {
+struct Table<'a, K: RowKind> {
     // The file's name.
     name: &'a str,
     // The kind of the rows, and the words that follow it.
-    kind: Option<Kind>,
+    kind: Option<K>,
     words: &'a str,
     // The row that is being read.
     row: Row,
@@ -69,18 +69,12 @@ fn is_wanted(row: &Row, answer: &[u8]) -> bool {
     }
 }
 
-impl<'a> Table<'a> {
+impl<'a, K: RowKind> Table<'a, K> {
     // The result of the row that was read. None where it has none.
     fn answer<L: Ledger>(&mut self, alloc: Global, steps: &mut Steps<L>) -> Option<Vec<u8>> {
         let mut answer = Vec::new(alloc);
-        push_answer(
-            alloc,
-            self.kind?,
-            self.words,
-            &mut self.row,
-            &mut answer,
-            steps,
-        )?;
+        let kind = self.kind?;
+        kind.push_result(alloc, self.words, &mut self.row, &mut answer, steps)?;
         Some(answer)
     }
 
@@ -119,9 +113,17 @@ impl<'a> Table<'a> {
         Some(())
     }
 
+    // Whether rows of the kind have files.
+    fn has_files(&self) -> bool {
+        match self.kind {
+            Some(kind) => kind.has_files(),
+            None => false,
+        }
+    }
+
     // Whether a line with this mark begins another row.
     fn begins_row(&self, mark: Mark) -> bool {
-        mark != Mark::Wanted && !self.row.wanted.is_empty() && self.kind != Some(Kind::Run)
+        mark != Mark::Wanted && !self.row.wanted.is_empty() && !self.has_files()
     }
 
     fn take_text<L: Ledger>(
@@ -157,14 +159,14 @@ impl<'a> Table<'a> {
         }
         self.end_row(alloc, report, steps)?;
         self.words = head.1;
-        self.kind = kind_of(head.0, head.1);
+        self.kind = K::named(head.0, head.1);
         self.kind?;
         Some(())
     }
 
     // Takes the name of a file that is given, or that is to be saved.
     fn take_name(&mut self, alloc: Global, number: usize, head: (&str, &str)) -> Option<()> {
-        if self.kind != Some(Kind::Run) || head.1.is_empty() {
+        if !self.has_files() || head.1.is_empty() {
             return None;
         }
         if self.row.is_empty() {
@@ -198,9 +200,9 @@ impl<'a> Table<'a> {
 }
 
 // Takes all lines of the text. A line that can't be read is reported and left out.
-fn take_all<'a, L: Ledger>(
+fn take_all<'a, K: RowKind, L: Ledger>(
     alloc: Global,
-    table: &mut Table<'a>,
+    table: &mut Table<'a, K>,
     text: &'a str,
     report: &mut Vec<u8>,
     steps: &mut Steps<L>,
@@ -220,7 +222,7 @@ fn take_all<'a, L: Ledger>(
 
 // Tries the rows of a file, reports those that differ, and counts them. None where the bytes aren't UTF-8, or where
 // memory runs out.
-pub(crate) fn try_rows<L: Ledger>(
+pub fn try_rows<K: RowKind, L: Ledger>(
     alloc: Global,
     name: &str,
     bytes: &[u8],
@@ -228,7 +230,7 @@ pub(crate) fn try_rows<L: Ledger>(
     steps: &mut Steps<L>,
 ) -> Option<Counts> {
     let text = str::from_utf8(bytes).ok()?;
-    let mut table = Table {
+    let mut table: Table<'_, K> = Table {
         name,
         kind: None,
         words: "",
