@@ -7,5 +7,5 @@ mod program;
 mod reasons;
 mod spots;
 
-pub use program::{exit_code, run_program};
+pub use program::{exit_code, run_program, words};
 pub use reasons::{refused_because, unopened_because};

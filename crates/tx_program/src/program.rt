@@ -16,8 +16,8 @@ use tx_base::{Memory, Steps};
 use tx_session::{Status, run};
 use tx_system::{FileStore, StandardInput, StandardOutput};
 
-// The words of the command line. Where memory sufficed, words that can't be had, or are no text, are as faulty as none.
-fn words<R: Env + AllocGlobal>(rt: &R) -> Result<Vec<String>, AllocError> {
+/// The words of the command line. Where memory sufficed, there are none if they can't be had or are no text.
+pub fn words<R: Env + AllocGlobal>(rt: &R) -> Result<Vec<String>, AllocError> {
     let mut words = Vec::new(rt.alloc());
     match env::args(rt) {
         Ok(args) => {
