@@ -3,14 +3,8 @@
 //! README.md says how a row is written.
 #![tactic(auto)]
 
-mod applying;
-mod clustering;
-mod evaluating;
 mod kinds;
-mod opening;
-mod reading;
 mod running;
-mod writing;
 
 use crate::kinds::Kind;
 use std::marker::Brand;
