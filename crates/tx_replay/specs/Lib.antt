@@ -1,0 +1,16 @@
+pub mod SameTrees
+pub mod Held
+pub mod Seen
+pub mod OpenRows
+pub mod Walks
+pub mod Going
+pub mod InStep
+pub mod Replays
+pub mod Looking
+pub mod Traces
+pub mod Cached
+pub mod Descent
+pub mod Holding
+pub mod Gives
+pub mod Stages
+pub mod Ending
