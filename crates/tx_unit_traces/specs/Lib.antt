@@ -1,0 +1,5 @@
+pub mod Moments
+pub mod Traces
+pub mod Units
+pub mod UnitLists
+pub mod Carrying
