@@ -1,0 +1,5 @@
+mod Executing
+mod Going
+mod Endings
+mod Keyed
+mod Shown
